@@ -1,0 +1,115 @@
+-- Laws of a ladder of refusals.
+--
+-- `refused-exactly` and `passed-exactly` are the law in both directions (R-23): the answer is n exactly when a row with n holds and
+-- no row above it does, and 0 exactly when no row holds. The rest is for the code, which climbs a ladder row by row and thing by thing.
+use Prim.Native.Nat.{ℕ, zero, suc, _+_, _<_, _≤_}
+use mathlib.Core.Path.{_≡_, refl, sym, ap, _∙_, subst}
+use mathlib.Core.Logic.{_⊎_, inl, inr, _↔_}
+use mathlib.Core.Bool.{Bool, true, false, cond, not}
+use mathlib.Core.List.{List, [], _∷_, _++_}
+use lib.Dec.{eqb}
+use native.Mathlib.Omega.{arith}
+use borrow.Author.Tests.{eqb-true, eqb-false}
+use Rattle.kit.specs.Ladder.{ladder, each, Decides, Silent, Numbered}
+use Rattle.kit.specs.Loops.{first, scan}
+use Rattle.kit.proofs.Cases.{on, clash, given}
+
+module _ {A : Type 0} where
+  pub ladder-decides : (other answer : A) (rows : List (Bool × A)) → Decides rows answer → ladder other rows ≡ answer
+  unfolding ladder
+  ladder-decides other answer [] d = absurd d
+  ladder-decides other answer ((t, own) ∷ rows) (inl (e, same)) = rw e same
+  ladder-decides other answer ((t, own) ∷ rows) (inr (e, d)) = rw e (ladder-decides other answer rows d)
+
+  pub ladder-silent : (other : A) (rows : List (Bool × A)) → Silent rows → ladder other rows ≡ other
+  unfolding ladder
+  ladder-silent other [] s = refl
+  ladder-silent other ((t, own) ∷ rows) (e, s) = rw e (ladder-silent other rows s)
+
+  -- a ladder either decides or is silent
+  pub climb : (other : A) (rows : List (Bool × A)) → Decides rows (ladder other rows) ⊎ Silent rows
+  unfolding ladder
+  climb other [] = inr tt
+  climb other ((true, own) ∷ rows) = inl (inl (refl, refl))
+  climb other ((false, own) ∷ rows) = further (climb other rows)
+    where
+      further : Decides rows (ladder other rows) ⊎ Silent rows → Decides ((false, own) ∷ rows) (ladder other rows) ⊎ Silent ((false, own) ∷ rows)
+      further (inl d) = inl (inr (refl, d))
+      further (inr s) = inr (refl, s)
+
+  -- one ladder above another: where the upper one is silent, the lower one answers
+  pub ladder-append : (other : A) (upper lower : List (Bool × A)) → ladder other (upper ++ lower) ≡ ladder (ladder other lower) upper
+  unfolding ladder
+  ladder-append other [] lower = refl
+  ladder-append other ((t, own) ∷ upper) lower = ap (λ (rest : A). cond t own rest) (ladder-append other upper lower)
+
+  pub silent-append : (upper lower : List (Bool × A)) → Silent (upper ++ lower) → Silent upper × Silent lower
+  silent-append [] lower s = (tt, s)
+  silent-append ((t, own) ∷ upper) lower (e, s) = given (silent-append upper lower s) (λ (a, b). ((e, a), b))
+
+  pub silent-join : (upper lower : List (Bool × A)) → Silent upper → Silent lower → Silent (upper ++ lower)
+  silent-join [] lower a b = b
+  silent-join ((t, own) ∷ upper) lower (e, a) b = (e, silent-join upper lower a b)
+
+  pub silent-each : (rows : ℕ → List (Bool × A)) (k n : ℕ) → Silent (each rows k n) → (i : ℕ) → k ≤ i → i < k + n → Silent (rows i)
+  unfolding each
+  silent-each rows k zero s i p q = absurd (omega arith)
+  silent-each rows k (suc n) s i p q =
+      given (silent-append (rows k) (each rows (k + 1) n) s)
+      (λ (a, b). on (eqb k i) (λ e. subst (λ j. Silent (rows j)) (eqb-true k i e) a) (λ e. silent-each rows (k + 1) n b i (omega (arith, eqb-false k i e)) (omega arith)))
+
+  pub silent-all : (rows : ℕ → List (Bool × A)) (k n : ℕ) → ((i : ℕ) → k ≤ i → i < k + n → Silent (rows i)) → Silent (each rows k n)
+  unfolding each
+  silent-all rows k zero s = tt
+  silent-all rows k (suc n) s = silent-join (rows k) (each rows (k + 1) n) (s k (omega arith) (omega arith)) (silent-all rows (k + 1) n (λ i p q. s i (omega arith) (omega arith)))
+
+pub numbered-append : (upper lower : List (Bool × ℕ)) → Numbered upper → Numbered lower → Numbered (upper ++ lower)
+numbered-append [] lower a b = b
+numbered-append ((t, own) ∷ upper) lower (e, a) b = (e, numbered-append upper lower a b)
+
+pub numbered-each : (rows : ℕ → List (Bool × ℕ)) → ((i : ℕ) → Numbered (rows i)) → (k n : ℕ) → Numbered (each rows k n)
+unfolding each
+numbered-each rows a k zero = tt
+numbered-each rows a k (suc n) = numbered-append (rows k) (each rows (k + 1) n) (a k) (numbered-each rows a (k + 1) n)
+
+decides-positive : (rows : List (Bool × ℕ)) (n : ℕ) → Numbered rows → Decides rows n → 1 ≤ n
+decides-positive [] n a d = absurd d
+decides-positive ((t, own) ∷ rows) n (p, a) (inl (e, same)) = rw same at p
+decides-positive ((t, own) ∷ rows) n (p, a) (inr (e, d)) = decides-positive rows n a d
+
+module _ (rows : List (Bool × ℕ)) (numbered : Numbered rows) where
+  pub refused-exactly : (n : ℕ) → 1 ≤ n → (ladder 0 rows ≡ n) ↔ Decides rows n
+  refused-exactly n p = (λ e. go e (climb 0 rows), ladder-decides 0 n rows)
+    where
+      go : ladder 0 rows ≡ n → Decides rows (ladder 0 rows) ⊎ Silent rows → Decides rows n
+      go e (inl d) = subst (Decides rows) e d
+      go e (inr s) = absurd (omega (arith, ladder-silent 0 rows s))
+
+  pub passed-exactly : (ladder 0 rows ≡ 0) ↔ Silent rows
+  passed-exactly = (λ e. go e (climb 0 rows), ladder-silent 0 rows)
+    where
+      go : ladder 0 rows ≡ 0 → Decides rows (ladder 0 rows) ⊎ Silent rows → Silent rows
+      go e (inl d) = absurd (omega (arith, decides-positive rows (ladder 0 rows) numbered d))
+      go e (inr s) = s
+
+  -- a ladder that answers keeps its answer whatever stands below it, and one that does not leaves the answer to that
+  pub upper-answers : (other : ℕ) → (ladder 0 rows ≡ 0 → ⊥) → ladder other rows ≡ ladder 0 rows
+  upper-answers other n = go (climb 0 rows)
+    where
+      go : Decides rows (ladder 0 rows) ⊎ Silent rows → ladder other rows ≡ ladder 0 rows
+      go (inl d) = ladder-decides other (ladder 0 rows) rows d
+      go (inr s) = absurd (n (ladder-silent 0 rows s))
+
+  pub lower-answers : (other : ℕ) → ladder 0 rows ≡ 0 → ladder other rows ≡ other
+  lower-answers other e = ladder-silent other rows (passed-exactly .0 e)
+
+-- the ladder of several things answers as the first of them that has a row that holds: "the first bad slot, within it .."
+pub ladder-each : (rows : ℕ → List (Bool × ℕ)) → ((i : ℕ) → Numbered (rows i)) → (k n : ℕ)
+    → ladder 0 (each rows k n) ≡ first (λ i. ladder 0 (rows i)) k n
+unfolding each ladder scan
+ladder-each rows a k zero = refl
+ladder-each rows a k (suc n) =
+    ladder-append 0 (rows k) (each rows (k + 1) n)
+    ∙ on (eqb (ladder 0 (rows k)) 0)
+    (λ e. rw (e, lower-answers (rows k) (a k) (ladder 0 (each rows (k + 1) n)) (eqb-true _ 0 e)) (ladder-each rows a (k + 1) n))
+    (λ e. rw (e, upper-answers (rows k) (a k) (ladder 0 (each rows (k + 1) n)) (eqb-false _ 0 e)) refl)

@@ -1,0 +1,6 @@
+pub mod Bytes
+pub mod Cases
+pub mod Ladder
+pub mod Loops
+pub mod Member
+pub mod Put

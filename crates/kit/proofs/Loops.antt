@@ -1,0 +1,80 @@
+-- Laws of loops, in the loop's own form: what stands at index k of n is `.. k (n - k)`, and a turn takes it to `.. (k + 1) (n - (k + 1))`.
+use Prim.Native.Nat.{ℕ, zero, suc, _+_, _-_, _<_, _≤_}
+use mathlib.Core.Path.{_≡_, refl, sym, ap, _∙_}
+use mathlib.Core.Bool.{Bool, true, false}
+use lib.Dec.{eqb}
+use native.Mathlib.Omega.{arith}
+use borrow.Author.Tests.{eqb-true, eqb-false}
+use native.Mathlib.Numerals.{add-one}
+use Rattle.kit.specs.Loops.{scan, fold, any}
+use Rattle.kit.proofs.Cases.{on, clash, given}
+
+left-suc : (n k : ℕ) → k < n → n - k ≡ suc (n - (k + 1))
+left-suc n k h = omega arith
+
+left-none : (n k : ℕ) → n ≤ k → n - k ≡ 0
+left-none n k h = omega arith
+
+module _ {A : Type 0} (leaves : ℕ → Bool) (answer : ℕ → A) (other : A) where
+  -- the turn that goes on, the turn that leaves, and the end
+  pub scan-go : (n k : ℕ) → k < n → leaves k ≡ false → scan leaves answer other k (n - k) ≡ scan leaves answer other (k + 1) (n - (k + 1))
+  unfolding scan
+  scan-go n k h e = rw (left-suc n k h) (simp e)
+
+  pub scan-hit : (n k : ℕ) → k < n → leaves k ≡ true → scan leaves answer other k (n - k) ≡ answer k
+  unfolding scan
+  scan-hit n k h e = rw (left-suc n k h) (simp e)
+
+  pub scan-end : (n k : ℕ) → n ≤ k → scan leaves answer other k (n - k) ≡ other
+  unfolding scan
+  scan-end n k h = rw (left-none n k h) refl
+
+  -- what a scan answers: the first index at which it leaves, or none
+  pub scan-at : (k n i : ℕ) → k ≤ i → i < k + n → leaves i ≡ true → ((j : ℕ) → k ≤ j → j < i → leaves j ≡ false) → scan leaves answer other k n ≡ answer i
+  unfolding scan
+  scan-at k zero i p q e none = absurd (omega arith)
+  scan-at k (suc n) i p q e none =
+      on (leaves k)
+      (λ t. on (eqb k i) (λ same. rw t (ap answer (eqb-true k i same))) (λ other. absurd (clash t (none k (omega arith) (omega (arith, eqb-false k i other))))))
+      (λ t.
+      on (eqb k i)
+      (λ same. absurd (clash e (rw (eqb-true k i same) at t)))
+      (λ other. rw t (scan-at (k + 1) n i (omega (arith, eqb-false k i other)) (omega arith) e (λ j a b. none j (omega arith) b))))
+
+  pub scan-none : (k n : ℕ) → ((j : ℕ) → k ≤ j → j < k + n → leaves j ≡ false) → scan leaves answer other k n ≡ other
+  unfolding scan
+  scan-none k zero none = refl
+  scan-none k (suc n) none = rw (none k (omega arith) (omega arith)) (scan-none (k + 1) n (λ j a b. none j (omega arith) (omega arith)))
+
+module _ (test : ℕ → Bool) where
+  pub any-none : (k n : ℕ) → any test k n ≡ false → (j : ℕ) → k ≤ j → j < k + n → test j ≡ false
+  unfolding scan
+  any-none k zero h j p q = absurd (omega arith)
+  any-none k (suc n) h j p q =
+      on (test k)
+      (λ t. absurd (clash refl (rw t at h)))
+      (λ t.
+      on (eqb k j)
+      (λ same. rw (eqb-true k j same) at t)
+      (λ other. any-none (k + 1) n (rw t at h) j (omega (arith, eqb-false k j other)) (omega arith)))
+
+  pub any-some : (k n : ℕ) → any test k n ≡ true → (j : ℕ) × (k ≤ j) × (j < k + n) × (test j ≡ true)
+  unfolding scan
+  any-some k zero h = absurd (clash h refl)
+  any-some k (suc n) h =
+      on (test k)
+      (λ t. (k, omega arith, omega arith, t))
+      (λ t. given (any-some (k + 1) n (rw t at h)) (λ (j, a, b, e). (j, omega arith, omega arith, e)))
+
+module _ {A : Type 0} (turn : ℕ → A → A) (start : A) where
+  pub fold-none : fold turn start 0 ≡ start
+  unfolding fold
+  fold-none = refl
+
+  pub fold-more : (k : ℕ) → fold turn start (k + 1) ≡ turn k (fold turn start k)
+  unfolding fold
+  fold-more k = rw add-one refl
+
+  -- the turn of a loop: what stands is the fold so far, and the body gives the next
+  pub fold-turn : (now next : A) (k : ℕ) → now ≡ fold turn start k → next ≡ turn k now → next ≡ fold turn start (k + 1)
+  fold-turn now next k e g = g ∙ (ap (turn k) e ∙ sym (fold-more k))

@@ -1,0 +1,5 @@
+pub mod Bytes
+pub mod Ladder
+pub mod Loops
+pub mod Member
+pub mod Put
