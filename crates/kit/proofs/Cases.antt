@@ -2,7 +2,9 @@
 use Prim.Native.Nat.{ℕ}
 use mathlib.Core.Path.{_≡_, refl}
 use mathlib.Core.Bool.{Bool, true, false, not, _&&_, _||_}
+use lib.Dec.{ltb}
 use native.Mathlib.Omega.{arith}
+use borrow.Author.Tests.{lt-ltb, le-ltb}
 
 -- a test's two cases, each with its equation
 pub on : {C : Type 0} (test : Bool) → (test ≡ true → C) → (test ≡ false → C) → C
@@ -28,3 +30,10 @@ and-both false b h = absurd (clash h refl)
 pub and-second : (a b : Bool) → a && b ≡ false → a ≡ true → b ≡ false
 and-second true b h e = h
 and-second false b h e = absurd (clash e refl)
+
+-- a number is positive, or it is not: `ltb 0 n`, which is `leb 1 n` too
+pub above-zero : (n : ℕ) → (n ≡ 0 → ⊥) → ltb 0 n ≡ true
+above-zero n h = lt-ltb 0 n (omega arith)
+
+pub at-zero : (n : ℕ) → n ≡ 0 → ltb 0 n ≡ false
+at-zero n h = le-ltb 0 n (omega arith)

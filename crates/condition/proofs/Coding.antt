@@ -1,0 +1,208 @@
+-- A slot coded and read is that slot; a coded slot read and coded again is the same but for a second word that is not considered;
+-- and what is read has no code that the table of document 01 does not have.
+use Prim.Native.Nat.{ℕ, _+_, _*_, _/_, _%_, _<_, _≤_}
+use mathlib.Core.Path.{_≡_, refl, sym, ap, _∙_, subst}
+use mathlib.Core.Logic.{_⊎_, inl, inr}
+use mathlib.Core.Bool.{Bool, true, false, cond, not, _&&_, _||_}
+use lib.Dec.{eqb, ltb, leb}
+use native.Mathlib.Omega.{arith}
+use borrow.Author.Tests.{eqb-true, eqb-false, ltb-true, ltb-false, leb-true, eq-eqb, ne-eqb, lt-ltb, le-leb, not-false}
+use Rattle.kit.specs.Ladder.{ladder, Silent, Numbered}
+use Rattle.kit.proofs.Cases.{on, clash, given, and-both, and-second, above-zero}
+use Rattle.kit.proofs.Ladder.{ladder-silent, passed-exactly}
+use Rattle.condition.specs.Words.{noValue, isType, tractionWord, currentWord, isConsidered, secondAllowed, secondHeld}
+use Rattle.condition.specs.Slots.{bodyOf, slotRows, slotIn, slotOf, coding, codedOf, settled, HeldBody, Held}
+use Rattle.condition.specs.declared.slots.Body.{Body}
+use Rattle.condition.specs.declared.slots.Body.the-variants.{Empty, Area, Traction, Current}
+use Rattle.condition.specs.declared.slots.Coded.{Coded}
+use Rattle.condition.specs.declared.slots.Slot.{Slot}
+use Rattle.condition.specs.declared.slots.SlotReading.the-variants.{Good}
+
+pub slot-numbered : (c : Coded) → Numbered (slotRows c)
+slot-numbered c = omega arith
+
+-- what a coded slot is that no row refuses: all zero, or a numbered one with a type and a second word that are allowed
+pub record Zero (c : Coded) : Type 0 where
+  pub number : c .number ≡ 0
+  pub kind : c .kind ≡ 0
+  pub first : c .first ≡ 0
+  pub second : c .second ≡ 0
+
+pub record Filled (c : Coded) : Type 0 where
+  pub number : 0 < c .number
+  pub kind : isType (c .kind) ≡ true
+  pub allowed : secondAllowed (c .kind) (c .first) (c .second) ≡ true
+
+pub rows-say : (c : Coded) → Silent (slotRows c) → Zero c ⊎ Filled c
+rows-say c (row12, (row13, (row6, u))) =
+    on (eqb (c .number) 0)
+    (λ e.
+    given (and-both (eqb (c .kind) 0 && eqb (c .first) 0) (eqb (c .second) 0) (not-false _ (and-second _ _ row12 e)))
+    (λ (ab, s).
+    given (and-both (eqb (c .kind) 0) (eqb (c .first) 0) ab)
+    (λ (k, f).
+    inl (record { number = eqb-true _ 0 e; kind = eqb-true _ 0 k; first = eqb-true _ 0 f; second = eqb-true _ 0 s }))))
+    (λ e.
+    let p : ltb 0 (c .number) ≡ true = above-zero (c .number) (eqb-false (c .number) 0 e) in
+    inr (record { number = ltb-true 0 (c .number) p; kind = not-false _ (and-second _ _ row13 p); allowed = not-false _ row6 }))
+
+-- a type is 4, is 5, or is another
+by-kind : (P : ℕ → Type 0) (kind : ℕ) → P 4 → P 5 → (eqb kind 4 ≡ false → eqb kind 5 ≡ false → P kind) → P kind
+by-kind P kind four five other =
+    on (eqb kind 4)
+    (λ e. subst P (sym (eqb-true kind 4 e)) four)
+    (λ e. on (eqb kind 5) (λ f. subst P (sym (eqb-true kind 5 f)) five) (λ f. other e f))
+
+-- ---- what is read is held
+
+module _ (number first second : ℕ) (p : 0 < number) where
+  traction-held : secondAllowed 4 first second ≡ true → HeldBody number (bodyOf 4 first second)
+  unfolding bodyOf secondAllowed secondHeld isConsidered
+  traction-held a =
+      on (eqb first noValue)
+      (λ e. rw e (p, omega arith, omega arith, λ z. (refl, refl)))
+      (λ e.
+      given (and-both (ltb second 0x4000) (leb (second % 16) 5) (rw e at a))
+      (λ (small, volt). rw e (p, omega arith, leb-true (second % 16) 5 volt, λ z. absurd (eqb-false first noValue e z))))
+
+  current-held : secondAllowed 5 first second ≡ true → HeldBody number (bodyOf 5 first second)
+  unfolding bodyOf secondAllowed secondHeld isConsidered
+  current-held a =
+      on (eqb first noValue)
+      (λ e. rw e (p, inl (omega arith), λ z. refl))
+      (λ e.
+      rw e
+      (p,
+      on (leb second 1000)
+      (λ low. inl (leb-true second 1000 low))
+      (λ high. inr (eqb-true second 1023 (rw high at (rw e at a)))),
+      λ z. absurd (eqb-false first noValue e z)))
+
+  area-held : (kind : ℕ) → isType kind ≡ true → eqb kind 4 ≡ false → eqb kind 5 ≡ false → HeldBody number (bodyOf kind first second)
+  unfolding bodyOf
+  area-held kind t a b = rw (a, b, t) (p, t, a, b)
+
+  body-held : (kind : ℕ) → isType kind ≡ true → secondAllowed kind first second ≡ true → HeldBody number (bodyOf kind first second)
+  body-held kind t a =
+      by-kind (λ k. secondAllowed k first second ≡ true → HeldBody number (bodyOf k first second)) kind traction-held current-held
+      (λ e f a. area-held kind t e f) a
+
+zero-held : (c : Coded) → Zero c → Held (slotIn c)
+unfolding bodyOf
+zero-held c z = rw (z .number, z .kind) refl
+
+-- M-2e of a slot: what is read has valid codes
+pub read-held : (c : Coded) → Silent (slotRows c) → Held (slotIn c)
+read-held c s = go (rows-say c s)
+  where
+    go : Zero c ⊎ Filled c → Held (slotIn c)
+    go (inl z) = zero-held c z
+    go (inr f) = body-held (c .number) (c .first) (c .second) (f .number) (c .kind) (f .kind) (f .allowed)
+
+-- ---- read and coded again
+
+-- the second word of any other type is considered
+other-considered : (kind first : ℕ) → eqb kind 4 ≡ false → eqb kind 5 ≡ false → isConsidered kind first ≡ true
+unfolding isConsidered
+other-considered kind first a b = on (eqb first noValue) (λ e. rw (e, a, b)) (λ e. rw e)
+
+module _ (number first second : ℕ) where
+  abbrev Again : ℕ → Type 0
+  Again kind =
+      secondAllowed kind first second ≡ true
+      → coding number (bodyOf kind first second) ≡ record { number = number; kind = kind; first = first; second = secondHeld kind first second }
+
+  traction-again : Again 4
+  unfolding bodyOf secondAllowed secondHeld isConsidered
+  traction-again a =
+      on (eqb first noValue)
+      (λ e. rw e refl)
+      (λ e.
+      given (and-both (ltb second 0x4000) (leb (second % 16) 5) (rw e at a))
+      (λ (small, volt).
+      let same : second / 16 % 1024 % 1024 * 16 + second % 16 % 16 ≡ second = omega (arith, ltb-true second 0x4000 small) in
+      rw e (λ i. record { number = number; kind = 4; first = first; second = same i })))
+
+  current-again : Again 5
+  unfolding bodyOf
+  current-again a = refl
+
+  area-again : (kind : ℕ) → isType kind ≡ true → eqb kind 4 ≡ false → eqb kind 5 ≡ false → Again kind
+  unfolding bodyOf secondHeld
+  area-again kind t a b w = rw (a, b, t, other-considered kind first a b) refl
+
+zero-again : (c : Coded) → Zero c → codedOf (slotIn c) ≡ settled c
+unfolding codedOf bodyOf secondHeld isConsidered
+zero-again c z = rw (z .number, z .kind, z .first, z .second) refl
+
+-- K-12 of a slot: nothing alters but a second word that is not considered
+pub coded-back : (c : Coded) → Silent (slotRows c) → codedOf (slotIn c) ≡ settled c
+unfolding codedOf
+coded-back c s = go (rows-say c s)
+  where
+    go : Zero c ⊎ Filled c → codedOf (slotIn c) ≡ settled c
+    go (inl z) = zero-again c z
+    go (inr f) =
+        by-kind (Again (c .number) (c .first) (c .second)) (c .kind)
+        (traction-again (c .number) (c .first) (c .second))
+        (current-again (c .number) (c .first) (c .second))
+        (area-again (c .number) (c .first) (c .second) (c .kind) (f .kind))
+        (f .allowed)
+
+-- ---- coded and read
+
+-- a held slot, coded, is refused by no row, and means that slot
+abbrev Back : ℕ → Body → Type 0
+Back number body = Silent (slotRows (coding number body)) × (slotIn (coding number body) ≡ record { number = number; body = body })
+
+back : (number : ℕ) (body : Body) → HeldBody number body → Back number body
+unfolding bodyOf secondAllowed secondHeld isConsidered
+back number Empty w = ((refl, (refl, (refl, tt))), ap (λ n. record { number = n; body = Empty }) (sym w))
+back number (Area kind entry exit) (p, t, a, b) =
+    let n0 : eqb number 0 ≡ false = ne-eqb number 0 (omega arith) in
+    let n1 : ltb 0 number ≡ true = lt-ltb 0 number p in
+    let k : isConsidered kind entry ≡ true = other-considered kind entry a b in
+    ((rw n0 refl, (rw (n1, t) refl, (on (eqb entry noValue) (λ e. rw (e, a, b) refl) (λ e. rw (e, a, b) refl), tt))),
+    rw (a, b, t) refl)
+back number (Traction change country voltage) (p, c, v, z) =
+    let n0 : eqb number 0 ≡ false = ne-eqb number 0 (omega arith) in
+    let n1 : ltb 0 number ≡ true = lt-ltb 0 number p in
+    let second : ℕ = country % 1024 * 16 + voltage % 16 in
+    on (eqb change noValue)
+    (λ e.
+    given (z (eqb-true change noValue e)) (λ (cz, vz).
+    ((rw n0 refl, (rw n1 refl, (rw e refl, tt))),
+    rw e (λ i. record { number = number; body = Traction change (sym cz i) (sym vz i) }))))
+    (λ e.
+    let s1 : ltb second 0x4000 ≡ true = lt-ltb second 0x4000 (omega arith) in
+    let s2 : leb (second % 16) 5 ≡ true = le-leb (second % 16) 5 (omega arith) in
+    let c1 : second / 16 % 1024 ≡ country = omega arith in
+    let v1 : second % 16 ≡ voltage = omega arith in
+    ((rw n0 refl, (rw n1 refl, (rw (e, s1, s2) refl, tt))),
+    rw e (λ i. record { number = number; body = Traction change (c1 i) (v1 i) })))
+back number (Current change limit) (p, l, z) =
+    let n0 : eqb number 0 ≡ false = ne-eqb number 0 (omega arith) in
+    let n1 : ltb 0 number ≡ true = lt-ltb 0 number p in
+    on (eqb change noValue)
+    (λ e.
+    ((rw n0 refl, (rw n1 refl, (rw e refl, tt))),
+    rw e (λ i. record { number = number; body = Current change (sym (z (eqb-true change noValue e)) i) })))
+    (λ e. ((rw n0 refl, (rw n1 refl, (rw (e, allowed l) refl, tt))), rw e refl))
+  where
+    allowed : (limit ≤ 1000) ⊎ (limit ≡ 1023) → leb limit 1000 || eqb limit 1023 ≡ true
+    allowed (inl low) = rw (le-leb limit 1000 low) refl
+    allowed (inr same) = rw same refl
+
+pub coded-silent : (x : Slot) → Held x → Silent (slotRows (codedOf x))
+unfolding codedOf
+coded-silent x h = back (x .number) (x .body) h .0
+
+pub slot-in-back : (x : Slot) → Held x → slotIn (codedOf x) ≡ x
+unfolding codedOf
+slot-in-back x h = back (x .number) (x .body) h .1
+
+-- M-2d of a slot
+pub slot-back : (x : Slot) → Held x → slotOf (codedOf x) ≡ Good x
+unfolding slotOf
+slot-back x h =
+    rw (ladder-silent 0 (slotRows (codedOf x)) (coded-silent x h)) (ap Good (slot-in-back x h))

@@ -1,0 +1,72 @@
+-- A slot and its coding: document 01, "Conditions" and "Telegrams", rows 12, 13 and 6.
+use Prim.Native.Nat.{ℕ, _+_, _*_, _/_, _%_, _<_, _≤_}
+use mathlib.Core.Path.{_≡_}
+use mathlib.Core.Logic.{_⊎_}
+use mathlib.Core.Bool.{Bool, true, false, cond, not, _&&_, _||_}
+use mathlib.Core.List.{List, [], _∷_, _++_}
+use lib.Dec.{eqb, ltb, leb}
+use Rattle.kit.specs.Bytes.{wordBytes}
+use Rattle.kit.specs.Ladder.{ladder}
+use Rattle.condition.specs.Words.{noValue, isType, secondAllowed, secondHeld}
+use Rattle.condition.specs.declared.slots.Body.{Body}
+use Rattle.condition.specs.declared.slots.Body.the-variants.{Empty, Area, Traction, Current}
+use Rattle.condition.specs.declared.slots.Coded.{Coded}
+use Rattle.condition.specs.declared.slots.Slot.{Slot}
+use Rattle.condition.specs.declared.slots.SlotReading.{SlotReading}
+use Rattle.condition.specs.declared.slots.SlotReading.the-variants.{Good, Refused}
+
+-- T-05: the empty slot
+abbrev pub emptySlot : Slot
+emptySlot = record { number = 0; body = Empty }
+
+-- K-01 to K-04, K-11: the body that a type and two words make; bits 13..4 are the country, bits 3..0 the voltage
+unfoldable pub bodyOf : ℕ → ℕ → ℕ → Body
+bodyOf kind first second =
+    cond (eqb kind 4) (Traction first (secondHeld kind first second / 16 % 1024) (secondHeld kind first second % 16))
+    (cond (eqb kind 5) (Current first (secondHeld kind first second))
+    (cond (isType kind) (Area kind first second) Empty))
+
+-- R-12, R-13, R-06: slot number 0 with another byte not zero; slot number above 0, type not 1 to 9; second word not allowed
+abbrev pub slotRows : Coded → List (Bool × ℕ)
+slotRows c =
+    (eqb (c .number) 0 && not (eqb (c .kind) 0 && eqb (c .first) 0 && eqb (c .second) 0), 12)
+    ∷ (ltb 0 (c .number) && not (isType (c .kind)), 13)
+    ∷ (not (secondAllowed (c .kind) (c .first) (c .second)), 6)
+    ∷ []
+
+-- the slot that number, type and two words mean
+abbrev pub slotIn : Coded → Slot
+slotIn c = record { number = c .number; body = bodyOf (c .kind) (c .first) (c .second) }
+
+-- reading one: refused by the first row that holds, or that slot
+unfoldable pub slotOf : Coded → SlotReading
+slotOf c = cond (eqb (ladder 0 (slotRows c)) 0) (Good (slotIn c)) (Refused (ladder 0 (slotRows c)))
+
+-- and back; T-05: an empty slot is all zero
+abbrev pub coding : ℕ → Body → Coded
+coding number Empty = record { number = 0; kind = 0; first = 0; second = 0 }
+coding number (Area kind entry exit) = record { number = number; kind = kind; first = entry; second = exit }
+coding number (Traction change country voltage) = record { number = number; kind = 4; first = change; second = country % 1024 * 16 + voltage % 16 }
+coding number (Current change limit) = record { number = number; kind = 5; first = change; second = limit }
+
+unfoldable pub codedOf : Slot → Coded
+codedOf x = coding (x .number) (x .body)
+
+-- K-11: what is left of a coded slot when it is read and written again: its second word as it is held
+abbrev pub settled : Coded → Coded
+settled c = record { number = c .number; kind = c .kind; first = c .first; second = secondHeld (c .kind) (c .first) (c .second) }
+
+-- T-03, K-05: the six bytes: number, type, first word, second word, high byte first
+unfoldable pub sixOf : Coded → List ℕ
+sixOf c = (c .number ∷ []) ++ ((c .kind ∷ []) ++ (wordBytes (c .first) ++ wordBytes (c .second)))
+
+-- What a desk or a reader can hold: a slot is empty exactly when its number is 0; types, voltages, countries and limits are
+-- those of the table (K-01 to K-04); and what is not considered is zero (K-11).
+abbrev pub HeldBody : ℕ → Body → Type 0
+HeldBody number Empty = number ≡ 0
+HeldBody number (Area kind entry exit) = (0 < number) × (isType kind ≡ true) × (eqb kind 4 ≡ false) × (eqb kind 5 ≡ false)
+HeldBody number (Traction change country voltage) = (0 < number) × (country < 1024) × (voltage ≤ 5) × (change ≡ noValue → (country ≡ 0) × (voltage ≡ 0))
+HeldBody number (Current change limit) = (0 < number) × ((limit ≤ 1000) ⊎ (limit ≡ 1023)) × (change ≡ noValue → limit ≡ 0)
+
+abbrev pub Held : Slot → Type 0
+Held x = HeldBody (x .number) (x .body)

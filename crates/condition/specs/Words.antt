@@ -1,0 +1,35 @@
+-- The words of a condition: document 01, "Conditions".
+use Prim.Native.Nat.{ℕ, _%_}
+use mathlib.Core.Bool.{Bool, true, cond, not, _&&_, _||_}
+use lib.Dec.{eqb, ltb, leb}
+
+-- K-07: the distance that means no value
+abbrev pub noValue : ℕ
+noValue = 0x8000
+
+-- K-02: 1 powerless, pantograph lowered; 2 air tightness; 3 powerless, main switch off; 4 change of traction system; 5 change of
+-- allowed current; 6 to 9 brake inhibition: regenerative, magnetic shoe, eddy current service, eddy current emergency
+abbrev pub isType : ℕ → Bool
+isType kind = leb 1 kind && leb kind 9
+
+-- K-03: bits 15..14 zero, bits 13..4 any country, bits 3..0 voltage 0 to 5
+abbrev pub tractionWord : ℕ → Bool
+tractionWord second = ltb second 0x4000 && leb (second % 16) 5
+
+-- K-04: a limit of 0 to 1000 in units of 10 A, or 1023 for no restriction
+abbrev pub currentWord : ℕ → Bool
+currentWord second = leb second 1000 || eqb second 1023
+
+-- K-10: for types 4 and 5, when the change distance is 8000h, the second word is not considered
+unfoldable pub isConsidered : ℕ → ℕ → Bool
+isConsidered kind first = not (eqb first noValue && (eqb kind 4 || eqb kind 5))
+
+-- R-06, K-01, K-03, K-04, K-10: the second word is allowed for the type
+unfoldable pub secondAllowed : ℕ → ℕ → ℕ → Bool
+secondAllowed kind first second =
+    not (isConsidered kind first)
+    || cond (eqb kind 4) (tractionWord second) (cond (eqb kind 5) (currentWord second) true)
+
+-- K-11: where it is not considered, the second word is held as zero
+unfoldable pub secondHeld : ℕ → ℕ → ℕ → ℕ
+secondHeld kind first second = cond (isConsidered kind first) second 0

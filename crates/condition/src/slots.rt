@@ -1,0 +1,139 @@
+// A slot, and the number, type and two words that code it.
+ghost use mathlib.Core.Path.{_≡_};
+ghost use Rattle.kit.specs.Ladder.{ladder};
+ghost use Rattle.condition.specs.Slots.{bodyOf, slotRows, slotOf, codedOf};
+use crate::words::second_allowed;
+use crate::words::second_held;
+
+// What a slot holds. That it is empty is this enum's word, and not that its number is 0.
+pub enum Body {
+    Empty,
+    Area { kind: u8, entry: u16, exit: u16 },
+    Traction { change: u16, country: u16, voltage: u8 },
+    Current { change: u16, limit: u16 },
+}
+
+pub struct Slot {
+    pub number: u8,
+    pub body: Body,
+}
+
+// A slot as it is coded: the six bytes' number, type, first word and second word.
+pub struct Coded {
+    pub number: u8,
+    pub kind: u8,
+    pub first: u16,
+    pub second: u16,
+}
+
+pub enum SlotReading {
+    Good(Slot),
+    Refused(u8),
+}
+
+// The body that a type and two words make. A type that is not 1 to 9 makes none.
+pub fn body_of(kind: u8, first: u16, second: u16) -> Body
+    ensures { λ r. ⌜ r ≡ bodyOf kind first second ⌝ }
+{
+    let held = second_held(kind, first, second);
+    if kind == 4 {
+        return Body::Traction {
+            change: first,
+            country: held / 16 % 1024,
+            voltage: (held % 16) as u8,
+        };
+    }
+    if kind == 5 {
+        return Body::Current {
+            change: first,
+            limit: held,
+        };
+    }
+    if kind == 0 {
+        return Body::Empty;
+    }
+    if 9 < kind {
+        return Body::Empty;
+    }
+    Body::Area {
+        kind,
+        entry: first,
+        exit: second,
+    }
+}
+
+// The first of the rows 12, 13 and 6 that holds, or 0.
+pub fn refusal_of(coded: Coded) -> u8
+    ensures { λ r. ⌜ r ≡ ladder 0 (slotRows coded) ⌝ }
+{
+    if coded.number == 0 {
+        if coded.kind != 0 {
+            return 12;
+        }
+        if coded.first != 0 {
+            return 12;
+        }
+        if coded.second != 0 {
+            return 12;
+        }
+        return 0;
+    }
+    if coded.kind == 0 {
+        return 13;
+    }
+    if 9 < coded.kind {
+        return 13;
+    }
+    if second_allowed(coded.kind, coded.first, coded.second) {
+        return 0;
+    }
+    6
+}
+
+// The slot that the coded one means, or its refusal.
+pub fn slot_of(coded: Coded) -> SlotReading
+    ensures { λ r. ⌜ r ≡ slotOf coded ⌝ }
+{
+    let refusal = refusal_of(coded);
+    if refusal != 0 {
+        return SlotReading::Refused(refusal);
+    }
+    SlotReading::Good(Slot {
+        number: coded.number,
+        body: body_of(coded.kind, coded.first, coded.second),
+    })
+}
+
+// A slot, coded. Of a country and a voltage the ten and the four bits that have room are written: a slot that a desk or a reader
+// holds has no others.
+pub fn coded_of(slot: Slot) -> Coded
+    ensures { λ r. ⌜ r ≡ codedOf slot ⌝ }
+{
+    let body = slot.body;
+    match body {
+        Body::Empty => Coded {
+            number: 0,
+            kind: 0,
+            first: 0,
+            second: 0,
+        },
+        Body::Area { kind, entry, exit } => Coded {
+            number: slot.number,
+            kind,
+            first: entry,
+            second: exit,
+        },
+        Body::Traction { change, country, voltage } => Coded {
+            number: slot.number,
+            kind: 4,
+            first: change,
+            second: country % 1024 * 16 + (voltage % 16) as u16,
+        },
+        Body::Current { change, limit } => Coded {
+            number: slot.number,
+            kind: 5,
+            first: change,
+            second: limit,
+        },
+    }
+}

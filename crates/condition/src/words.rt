@@ -1,0 +1,59 @@
+// The words of a condition, and which second words its type allows.
+ghost use mathlib.Core.Path.{_≡_};
+ghost use Rattle.condition.specs.Words.{isConsidered, secondAllowed, secondHeld};
+
+// A distance with no value. 7FFFh and 8001h are ordinary distances.
+pub const NO_VALUE: u16 = 0x8000;
+
+const TRACTION: u8 = 4;
+const CURRENT: u8 = 5;
+const VOLTAGES: u16 = 16;
+const VOLTAGE_MOST: u16 = 5;
+const SPARE_BITS: u16 = 0x4000;
+const LIMIT_MOST: u16 = 1000;
+const NO_RESTRICTION: u16 = 1023;
+
+// Whether the second word is looked at: not for a change of traction system or of current whose change distance is missing.
+pub fn considered(kind: u8, first: u16) -> bool
+    ensures { λ r. ⌜ r ≡ isConsidered kind first ⌝ }
+{
+    if first == NO_VALUE {
+        if kind == TRACTION {
+            return false;
+        }
+        return kind != CURRENT;
+    }
+    true
+}
+
+// Whether the second word is allowed for the type (row 6).
+pub fn second_allowed(kind: u8, first: u16, second: u16) -> bool
+    ensures { λ r. ⌜ r ≡ secondAllowed kind first second ⌝ }
+{
+    if !considered(kind, first) {
+        return true;
+    }
+    if kind == TRACTION {
+        if second < SPARE_BITS {
+            return second % VOLTAGES <= VOLTAGE_MOST;
+        }
+        return false;
+    }
+    if kind == CURRENT {
+        if second <= LIMIT_MOST {
+            return true;
+        }
+        return second == NO_RESTRICTION;
+    }
+    true
+}
+
+// The second word as a desk and a reader hold it.
+pub fn second_held(kind: u8, first: u16, second: u16) -> u16
+    ensures { λ r. ⌜ r ≡ secondHeld kind first second ⌝ }
+{
+    if considered(kind, first) {
+        return second;
+    }
+    0
+}
