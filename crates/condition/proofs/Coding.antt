@@ -161,7 +161,6 @@ back number Empty w = ((refl, (refl, (refl, tt))), ap (λ n. record { number = n
 back number (Area kind entry exit) (p, t, a, b) =
     let n0 : eqb number 0 ≡ false = ne-eqb number 0 (omega arith) in
     let n1 : ltb 0 number ≡ true = lt-ltb 0 number p in
-    let k : isConsidered kind entry ≡ true = other-considered kind entry a b in
     ((rw n0 refl, (rw (n1, t) refl, (on (eqb entry noValue) (λ e. rw (e, a, b) refl) (λ e. rw (e, a, b) refl), tt))),
     rw (a, b, t) refl)
 back number (Traction change country voltage) (p, c, v, z) =

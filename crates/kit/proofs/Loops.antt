@@ -1,12 +1,12 @@
 -- Laws of loops, in the loop's own form: what stands at index k of n is `.. k (n - k)`, and a turn takes it to `.. (k + 1) (n - (k + 1))`.
 use Prim.Native.Nat.{ℕ, zero, suc, _+_, _-_, _<_, _≤_}
 use mathlib.Core.Path.{_≡_, refl, sym, ap, _∙_}
-use mathlib.Core.Bool.{Bool, true, false}
+use mathlib.Core.Bool.{Bool, true, false, not}
 use lib.Dec.{eqb}
 use native.Mathlib.Omega.{arith}
-use borrow.Author.Tests.{eqb-true, eqb-false}
+use borrow.Author.Tests.{eqb-true, eqb-false, eq-eqb, ne-eqb}
 use native.Mathlib.Numerals.{add-one}
-use Rattle.kit.specs.Loops.{scan, fold, any}
+use Rattle.kit.specs.Loops.{scan, fold, any, first}
 use Rattle.kit.proofs.Cases.{on, clash, given}
 
 left-suc : (n k : ℕ) → k < n → n - k ≡ suc (n - (k + 1))
@@ -45,6 +45,14 @@ module _ {A : Type 0} (leaves : ℕ → Bool) (answer : ℕ → A) (other : A) w
   unfolding scan
   scan-none k zero none = refl
   scan-none k (suc n) none = rw (none k (omega arith) (omega arith)) (scan-none (k + 1) n (λ j a b. none j (omega arith) (omega arith)))
+
+-- the turns of `first`, by whether a number is 0
+module _ (number : ℕ → ℕ) (n k : ℕ) (p : k < n) where
+  pub first-go : number k ≡ 0 → first number k (n - k) ≡ first number (k + 1) (n - (k + 1))
+  first-go e = scan-go _ _ _ n k p (rw (eq-eqb (number k) 0 e) refl)
+
+  pub first-hit : (number k ≡ 0 → ⊥) → first number k (n - k) ≡ number k
+  first-hit e = scan-hit _ _ _ n k p (rw (ne-eqb (number k) 0 e) refl)
 
 module _ (test : ℕ → Bool) where
   pub any-none : (k n : ℕ) → any test k n ≡ false → (j : ℕ) → k ≤ j → j < k + n → test j ≡ false

@@ -1,0 +1,106 @@
+-- Telegrams: document 01, "Telegrams", and its rows 9 to 14 and 6.
+use Prim.Native.Nat.{ℕ, _+_, _*_, _/_, _%_}
+use mathlib.Core.Bool.{Bool, cond, not, _&&_, _||_}
+use mathlib.Core.List.{List, [], _∷_, _++_}
+use lib.Dec.{eqb, ltb, leb}
+use lib.ListN.{length, getD}
+use Rattle.kit.specs.Bytes.{word, wordBytes}
+use Rattle.kit.specs.Ladder.{ladder, each}
+use Rattle.kit.specs.Loops.{any}
+use Rattle.condition.specs.Slots.{emptySlot, slotRows, slotIn, codedOf, sixOf}
+use Rattle.condition.specs.Steps.{steps}
+use Rattle.condition.specs.Verdicts.{verdictOf}
+use Rattle.condition.specs.declared.slots.Coded.{Coded}
+use Rattle.condition.specs.declared.slots.Slot.{Slot}
+use Rattle.condition.specs.declared.verdicts.Verdict.{Verdict}
+use Rattle.telegram.specs.declared.reading.Reading.{Reading}
+use Rattle.telegram.specs.declared.reading.Telegram.{Telegram}
+
+-- ---- the layout
+
+-- T-02: packet number in the top three bits of bytes 0 and 1, step number in the low thirteen
+abbrev pub packetIn : List ℕ → ℕ
+packetIn bytes = getD bytes 0 0 / 32
+
+abbrev pub stepIn : List ℕ → ℕ
+stepIn bytes = word (getD bytes 0 0 % 32) (getD bytes 1 0)
+
+-- T-03: then four slots of six bytes: number, type, first word, second word
+abbrev pub place : ℕ → ℕ
+place k = 2 + 6 * k
+
+abbrev pub codedAt : List ℕ → ℕ → Coded
+codedAt bytes k =
+    record {
+      number = getD bytes (place k) 0;
+      kind = getD bytes (place k + 1) 0;
+      first = word (getD bytes (place k + 2) 0) (getD bytes (place k + 3) 0);
+      second = word (getD bytes (place k + 4) 0) (getD bytes (place k + 5) 0);
+    }
+
+-- ---- reading
+
+-- a number stands in one of the places below k
+unfoldable pub takenBefore : List ℕ → ℕ → ℕ → Bool
+takenBefore bytes k number = any (λ j. eqb (getD bytes (place j) 0) number) 0 k
+
+-- R-20: of one place 12, 13, 6, and then 14: slot number above 0, already in an earlier slot of this telegram
+abbrev pub placeRows : List ℕ → ℕ → List (Bool × ℕ)
+placeRows bytes k =
+    slotRows (codedAt bytes k)
+    ++ (ltb 0 (codedAt bytes k .number) && takenBefore bytes k (codedAt bytes k .number), 14)
+    ∷ []
+
+-- R-20: 10 not 26 bytes, 11 packet number 0 to 2, then the first bad slot
+unfoldable pub readRows : List ℕ → List (Bool × ℕ)
+readRows bytes = (not (eqb (length bytes) 26), 10) ∷ (ltb (packetIn bytes) 3, 11) ∷ each (placeRows bytes) 0 4
+
+abbrev pub slotAt : List ℕ → ℕ → Slot
+slotAt bytes k = slotIn (codedAt bytes k)
+
+-- T-02, T-03: what 26 bytes mean
+unfoldable pub telegramOf : List ℕ → Telegram
+telegramOf bytes =
+    record {
+      packet = packetIn bytes;
+      step = stepIn bytes;
+      slots = slotAt bytes 0 ∷ slotAt bytes 1 ∷ slotAt bytes 2 ∷ slotAt bytes 3 ∷ [];
+    }
+
+-- what stands beside a refusal
+abbrev pub blank : Telegram
+blank = record { packet = 0; step = 0; slots = emptySlot ∷ emptySlot ∷ emptySlot ∷ emptySlot ∷ [] }
+
+unfoldable pub readOf : List ℕ → Reading
+readOf bytes =
+    record {
+      verdict = verdictOf (ladder 0 (readRows bytes));
+      telegram = cond (eqb (ladder 0 (readRows bytes)) 0) (telegramOf bytes) blank;
+    }
+
+-- ---- writing
+
+-- T-02: the first two bytes, as a word; the packet's three bits, the step's thirteen
+unfoldable pub headOf : ℕ → ℕ → ℕ
+headOf packet step = packet % 8 * steps + step % steps
+
+-- T-03: the six bytes of place k
+abbrev pub sixAt : List Slot → ℕ → List ℕ
+sixAt slots k = sixOf (codedOf (getD slots k emptySlot))
+
+-- T-02, T-03: all 26 bytes
+unfoldable pub bytesOf : Telegram → List ℕ
+bytesOf t =
+    wordBytes (headOf (t .packet) (t .step))
+    ++ (sixAt (t .slots) 0 ++ (sixAt (t .slots) 1 ++ (sixAt (t .slots) 2 ++ sixAt (t .slots) 3)))
+
+-- R-19: 9 the packet is not 3 to 7, 10 the buffer is not 26 bytes
+abbrev pub writeRows : ℕ → ℕ → List (Bool × ℕ)
+writeRows packet room = (not (leb 3 packet && leb packet 7), 9) ∷ (not (eqb room 26), 10) ∷ []
+
+unfoldable pub writeVerdict : Telegram → List ℕ → Verdict
+writeVerdict t buffer = verdictOf (ladder 0 (writeRows (t .packet) (length buffer)))
+
+-- R-25: a refused call changes no byte
+unfoldable pub written : Telegram → List ℕ → List ℕ
+written t buffer = cond (eqb (ladder 0 (writeRows (t .packet) (length buffer))) 0) (bytesOf t) buffer

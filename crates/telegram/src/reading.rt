@@ -1,0 +1,162 @@
+// Reading a telegram of any bytes and any length: its refusal (10, 11, then the first bad slot with 12, 13, 6, 14), or what it means.
+use condition::Body;
+use condition::Coded;
+use condition::Slot;
+use condition::Verdict;
+ghost use mathlib.Core.Path.{_≡_};
+ghost use Prim.Native.Nat.{ℕ, _<_, _≤_};
+ghost use lib.ListN.{length};
+ghost use Rattle.kit.specs.Bytes.{word};
+ghost use Rattle.kit.specs.Ladder.{ladder, each};
+ghost use Rattle.telegram.specs.Telegrams.{codedAt, slotAt, takenBefore, placeRows, readRows, telegramOf, readOf, blank};
+
+pub struct Telegram {
+    pub packet: u8,
+    pub step: u16,
+    pub slots: [Slot; 4],
+}
+
+// Beside a refusal stands the blank telegram: packet 0, step 0 and four empty slots.
+pub struct Reading {
+    pub verdict: Verdict,
+    pub telegram: Telegram,
+}
+
+// A word of two bytes, high byte first.
+fn word(high: u8, low: u8) -> u16
+    ensures { λ r. ⌜ r ≡ word high low ⌝ }
+{
+    (high as u16) * 256 + (low as u16)
+}
+
+// The six bytes of place k, 0 to 3.
+fn coded_at(bytes: &[u8], k: usize) -> Coded
+    requires { ⌜ (length (now bytes) ≡ 26) × (k < 4) ⌝ }
+    ensures { λ r. ⌜ r ≡ codedAt (now (bytes .entry)) k ⌝ }
+{
+    let at = 2 + 6 * k;
+    Coded {
+        number: bytes[at],
+        kind: bytes[at + 1],
+        first: word(bytes[at + 2], bytes[at + 3]),
+        second: word(bytes[at + 4], bytes[at + 5]),
+    }
+}
+
+// Whether a number stands in a place below k.
+fn taken_before(bytes: &[u8], k: usize, number: u8) -> bool
+    requires { ⌜ (length (now bytes) ≡ 26) × (k ≤ 4) ⌝ }
+    ensures { λ r. ⌜ r ≡ takenBefore (now (bytes .entry)) k number ⌝ }
+{
+    let mut j = 0;
+    while j < k {
+        if bytes[2 + 6 * j] == number {
+            return true;
+        }
+        j += 1;
+    }
+    false
+}
+
+// The refusal of place k, or 0.
+fn place_refusal(bytes: &[u8], k: usize) -> u8
+    requires { ⌜ (length (now bytes) ≡ 26) × (k < 4) ⌝ }
+    ensures { λ r. ⌜ r ≡ ladder 0 (placeRows (now (bytes .entry)) k) ⌝ }
+{
+    let coded = coded_at(bytes, k);
+    let refusal = condition::refusal_of(coded);
+    if refusal != 0 {
+        return refusal;
+    }
+    let number = coded.number;
+    if number == 0 {
+        return 0;
+    }
+    if taken_before(bytes, k, number) {
+        return 14;
+    }
+    0
+}
+
+// The refusal of the first bad place, or 0.
+fn places_refusal(bytes: &[u8]) -> u8
+    requires { ⌜ length (now bytes) ≡ 26 ⌝ }
+    ensures { λ r. ⌜ r ≡ ladder 0 (each (placeRows (now (bytes .entry))) 0 4) ⌝ }
+{
+    let mut k = 0;
+    while k < 4 {
+        let refusal = place_refusal(bytes, k);
+        if refusal != 0 {
+            return refusal;
+        }
+        k += 1;
+    }
+    0
+}
+
+// The refusal of a telegram, or 0.
+fn refusal_of(bytes: &[u8]) -> u8
+    ensures { λ r. ⌜ r ≡ ladder 0 (readRows (now (bytes .entry))) ⌝ }
+{
+    if bytes.len() != 26 {
+        return 10;
+    }
+    if bytes[0] / 32 < 3 {
+        return 11;
+    }
+    places_refusal(bytes)
+}
+
+// The slot of place k.
+fn slot_at(bytes: &[u8], k: usize) -> Slot
+    requires { ⌜ (length (now bytes) ≡ 26) × (k < 4) ⌝ }
+    ensures { λ r. ⌜ r ≡ slotAt (now (bytes .entry)) k ⌝ }
+{
+    let coded = coded_at(bytes, k);
+    Slot {
+        number: coded.number,
+        body: condition::body_of(coded.kind, coded.first, coded.second),
+    }
+}
+
+fn telegram_of(bytes: &[u8]) -> Telegram
+    requires { ⌜ length (now bytes) ≡ 26 ⌝ }
+    ensures { λ r. ⌜ r ≡ telegramOf (now (bytes .entry)) ⌝ }
+{
+    let slots = [slot_at(bytes, 0), slot_at(bytes, 1), slot_at(bytes, 2), slot_at(bytes, 3)];
+    Telegram {
+        packet: bytes[0] / 32,
+        step: word(bytes[0] % 32, bytes[1]),
+        slots,
+    }
+}
+
+fn blank_telegram() -> Telegram
+    ensures { λ r. ⌜ r ≡ blank ⌝ }
+{
+    let none = Slot {
+        number: 0,
+        body: Body::Empty,
+    };
+    Telegram {
+        packet: 0,
+        step: 0,
+        slots: [none; 4],
+    }
+}
+
+pub fn read(bytes: &[u8]) -> Reading
+    ensures { λ r. ⌜ r ≡ readOf (now (bytes .entry)) ⌝ }
+{
+    let refusal = refusal_of(bytes);
+    if refusal != 0 {
+        return Reading {
+            verdict: Verdict::Refused(refusal),
+            telegram: blank_telegram(),
+        };
+    }
+    Reading {
+        verdict: Verdict::Accepted,
+        telegram: telegram_of(bytes),
+    }
+}

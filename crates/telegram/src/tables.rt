@@ -1,0 +1,39 @@
+// Which four of a table's twenty slots a packet carries.
+use condition::Body;
+use condition::Slot;
+ghost use mathlib.Core.Path.{_≡_};
+ghost use Prim.Native.Nat.{ℕ};
+ghost use lib.ListN.{getD};
+ghost use Rattle.condition.specs.Slots.{emptySlot};
+ghost use Rattle.telegram.specs.Tables.{firstSlot, fourOf};
+
+fn slot_in(table: [Slot; 20], i: usize) -> Slot
+    ensures { λ r. ⌜ r ≡ getD table i emptySlot ⌝ }
+{
+    if i < 20 {
+        return table[i];
+    }
+    Slot {
+        number: 0,
+        body: Body::Empty,
+    }
+}
+
+// The first of the slots that a packet carries. Packets 0 to 2 are taken as packet 3, and those above 7 lie past the table: the
+// writer refuses both, and the reader gives neither.
+pub fn first_slot(packet: u8) -> usize
+    ensures { λ r. ⌜ r ≡ firstSlot packet ⌝ }
+{
+    if packet < 3 {
+        return 0;
+    }
+    4 * ((packet - 3) as usize)
+}
+
+// Packet p carries slots 4(p-3) to 4(p-3)+3; past the table's end they are empty.
+pub fn four_of(table: [Slot; 20], packet: u8) -> [Slot; 4]
+    ensures { λ r. ⌜ r ≡ fourOf table packet ⌝ }
+{
+    let at = first_slot(packet);
+    [slot_in(table, at), slot_in(table, at + 1), slot_in(table, at + 2), slot_in(table, at + 3)]
+}
