@@ -1,10 +1,17 @@
 -- Laws of verdicts: a verdict and its number say the same.
-use Prim.Native.Nat.{ℕ}
-use mathlib.Core.Path.{_≡_, refl, sym}
+use Prim.Native.Nat.{ℕ, _≤_}
+use mathlib.Core.Path.{_≡_, refl, sym, ap, _∙_}
+use mathlib.Core.Logic.{_↔_}
+use mathlib.Core.Bool.{Bool}
+use mathlib.Core.List.{List}
 use lib.Dec.{eqb}
-use borrow.Author.Tests.{eqb-true, eq-eqb, ne-eqb}
+use native.Mathlib.Omega.{arith}
+use borrow.Author.Tests.{eqb-true, eqb-false, eq-eqb, ne-eqb}
+use Rattle.kit.specs.Ladder.{ladder, Decides, Silent, Numbered}
 use Rattle.kit.proofs.Cases.{on}
+use Rattle.kit.proofs.Ladder.{refused-exactly, passed-exactly, decides-positive}
 use Rattle.condition.specs.Verdicts.{numberOf, verdictOf}
+use Rattle.condition.specs.declared.verdicts.Verdict.{Verdict}
 use Rattle.condition.specs.declared.verdicts.Verdict.the-variants.{Accepted, Refused}
 
 pub verdict-accepted : (number : ℕ) → number ≡ 0 → verdictOf number ≡ Accepted
@@ -19,3 +26,27 @@ verdict-refused number e = rw (ne-eqb number 0 e) refl
 pub number-verdict : (number : ℕ) → numberOf (verdictOf number) ≡ number
 unfolding verdictOf
 number-verdict number = on (eqb number 0) (λ e. rw e (sym (eqb-true number 0 e))) (λ e. rw e refl)
+
+pub verdict-number : {number : ℕ} (verdict : Verdict) → verdictOf number ≡ verdict → number ≡ numberOf verdict
+verdict-number {number} verdict e = sym (number-verdict number) ∙ ap numberOf e
+
+-- R-23: a refusal is given when its row holds and nothing earlier does, and never else
+module _ (rows : List (Bool × ℕ)) (numbered : Numbered rows) where
+  pub refused-when : (number : ℕ) → (verdictOf (ladder 0 rows) ≡ Refused number) ↔ Decides rows number
+  refused-when number = (there, back)
+    where
+      there : verdictOf (ladder 0 rows) ≡ Refused number → Decides rows number
+      there e =
+          let n : ladder 0 rows ≡ number = verdict-number (Refused number) e in
+          on (eqb (ladder 0 rows) 0)
+          (λ z. absurd (let x : Accepted ≡ Refused number = sym (verdict-accepted (ladder 0 rows) (eqb-true _ 0 z)) ∙ e in let y : _≡_ {A = ℕ} 0 1 = cc in omega arith))
+          (λ z. refused-exactly rows numbered number (omega (arith, eqb-false (ladder 0 rows) 0 z)) .0 n)
+
+      back : Decides rows number → verdictOf (ladder 0 rows) ≡ Refused number
+      back d =
+          let p : 1 ≤ number = decides-positive rows number numbered d in
+          let n : ladder 0 rows ≡ number = refused-exactly rows numbered number p .1 d in
+          ap verdictOf n ∙ verdict-refused number (λ z. omega arith)
+
+  pub accepted-when : (verdictOf (ladder 0 rows) ≡ Accepted) ↔ Silent rows
+  accepted-when = (λ e. passed-exactly rows numbered .0 (verdict-number Accepted e), λ s. verdict-accepted (ladder 0 rows) (passed-exactly rows numbered .1 s))

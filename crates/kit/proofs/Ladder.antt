@@ -10,7 +10,8 @@ use mathlib.Core.List.{List, [], _∷_, _++_}
 use lib.Dec.{eqb}
 use native.Mathlib.Omega.{arith}
 use borrow.Author.Tests.{eqb-true, eqb-false}
-use Rattle.kit.specs.Ladder.{ladder, each, Decides, Silent, Numbered}
+use Rattle.kit.specs.Ladder.{ladder, Decides, Silent, Numbered}
+use Rattle.kit.specs.Each.{each}
 use Rattle.kit.specs.Loops.{first, scan}
 use Rattle.kit.proofs.Cases.{on, clash, given}
 
@@ -72,7 +73,7 @@ unfolding each
 numbered-each rows a k zero = tt
 numbered-each rows a k (suc n) = numbered-append (rows k) (each rows (k + 1) n) (a k) (numbered-each rows a (k + 1) n)
 
-decides-positive : (rows : List (Bool × ℕ)) (n : ℕ) → Numbered rows → Decides rows n → 1 ≤ n
+pub decides-positive : (rows : List (Bool × ℕ)) (n : ℕ) → Numbered rows → Decides rows n → 1 ≤ n
 decides-positive [] n a d = absurd d
 decides-positive ((t, own) ∷ rows) n (p, a) (inl (e, same)) = rw same at p
 decides-positive ((t, own) ∷ rows) n (p, a) (inr (e, d)) = decides-positive rows n a d

@@ -1,5 +1,6 @@
 pub mod Bytes
 pub mod Cases
+pub mod Each
 pub mod Ladder
 pub mod Loops
 pub mod Member

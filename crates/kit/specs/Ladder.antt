@@ -1,23 +1,18 @@
 -- A ladder of refusals: rows of a test and an answer, read from the top. The first row whose test holds gives its answer.
 --
 -- Every list of refusals in document 01 is such a ladder, in the document's own order. Where the document says "the first bad
--- slot, within it 12, 13, 6, 14", the rows of the first slot stand above those of the second, and so on: `each`.
-use Prim.Native.Nat.{ℕ, zero, suc, _+_, _≤_}
+-- slot, within it 12, 13, 6, 14", the rows of the first slot stand above those of the second, and so on: `each` of `Each.antt`.
+use Prim.Native.Nat.{ℕ, _≤_}
 use mathlib.Core.Path.{_≡_}
 use mathlib.Core.Logic.{_⊎_}
 use mathlib.Core.Bool.{Bool, true, false, cond}
-use mathlib.Core.List.{List, [], _∷_, _++_}
+use mathlib.Core.List.{List, [], _∷_}
 
 module _ {A : Type 0} where
   -- the answer of the first row that holds, or `other` where none does
   unfoldable pub ladder : A → List (Bool × A) → A
   ladder other [] = other
   ladder other ((holds, answer) ∷ below) = cond holds answer (ladder other below)
-
-  -- the rows of thing k, then those of thing k + 1, and so on: n things
-  unfoldable pub each : (ℕ → List (Bool × A)) → ℕ → ℕ → List (Bool × A)
-  each rows k zero = []
-  each rows k (suc n) = rows k ++ each rows (k + 1) n
 
   -- a row with this answer holds, and no row above it does
   abbrev pub Decides : List (Bool × A) → A → Type 0

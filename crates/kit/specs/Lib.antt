@@ -1,4 +1,5 @@
 pub mod Bytes
+pub mod Each
 pub mod Ladder
 pub mod Loops
 pub mod Member

@@ -7,7 +7,7 @@ use lib.Dec.{eqb, ltb}
 use lib.ListN.{length}
 use native.Mathlib.Omega.{arith}
 use borrow.Author.Tests.{eqb-true, eq-eqb, ne-eqb, not-false}
-use Rattle.kit.specs.Ladder.{ladder, each, Numbered}
+use Rattle.kit.specs.Ladder.{ladder, Numbered}
 use Rattle.kit.proofs.Ladder.{ladder-append, upper-answers, lower-answers, numbered-append, numbered-each, passed-exactly}
 use Rattle.condition.specs.Slots.{slotRows}
 use Rattle.condition.specs.declared.slots.Coded.{Coded}
@@ -18,7 +18,7 @@ use Rattle.telegram.specs.Telegrams.{codedAt, takenBefore, placeRows, re
 use Rattle.telegram.specs.declared.reading.Telegram.{Telegram}
 
 -- row 14 of a place, below its other rows
-abbrev again : List ℕ → ℕ → Coded → List (Bool × ℕ)
+abbrev pub again : List ℕ → ℕ → Coded → List (Bool × ℕ)
 again bytes k coded = (ltb 0 (coded .number) && takenBefore bytes k (coded .number), 14) ∷ []
 
 -- every answer of these ladders is a number of document 01, and so not 0

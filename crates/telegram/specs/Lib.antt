@@ -1,2 +1,3 @@
+pub mod Sendable
 pub mod Tables
 pub mod Telegrams

@@ -5,7 +5,8 @@ use mathlib.Core.List.{List, [], _∷_, _++_}
 use lib.Dec.{eqb, ltb, leb}
 use lib.ListN.{length, getD}
 use Rattle.kit.specs.Bytes.{word, wordBytes}
-use Rattle.kit.specs.Ladder.{ladder, each}
+use Rattle.kit.specs.Each.{each}
+use Rattle.kit.specs.Ladder.{ladder}
 use Rattle.kit.specs.Loops.{any}
 use Rattle.condition.specs.Slots.{emptySlot, slotRows, slotIn, codedOf, sixOf}
 use Rattle.condition.specs.Steps.{steps}
@@ -90,9 +91,7 @@ sixAt slots k = sixOf (codedOf (getD slots k emptySlot))
 
 -- T-02, T-03: all 26 bytes
 unfoldable pub bytesOf : Telegram → List ℕ
-bytesOf t =
-    wordBytes (headOf (t .packet) (t .step))
-    ++ (sixAt (t .slots) 0 ++ (sixAt (t .slots) 1 ++ (sixAt (t .slots) 2 ++ sixAt (t .slots) 3)))
+bytesOf t = wordBytes (headOf (t .packet) (t .step)) ++ each (sixAt (t .slots)) 0 4
 
 -- R-19: 9 the packet is not 3 to 7, 10 the buffer is not 26 bytes
 abbrev pub writeRows : ℕ → ℕ → List (Bool × ℕ)

@@ -7,7 +7,8 @@ ghost use mathlib.Core.Path.{_≡_};
 ghost use Prim.Native.Nat.{ℕ, _<_, _≤_};
 ghost use lib.ListN.{length};
 ghost use Rattle.kit.specs.Bytes.{word};
-ghost use Rattle.kit.specs.Ladder.{ladder, each};
+ghost use Rattle.kit.specs.Each.{each};
+ghost use Rattle.kit.specs.Ladder.{ladder};
 ghost use Rattle.telegram.specs.Telegrams.{codedAt, slotAt, takenBefore, placeRows, readRows, telegramOf, readOf, blank};
 
 pub struct Telegram {

@@ -3,7 +3,8 @@ use mathlib.Core.List.{List}
 use Prim.Native.Nat.{_-_, _≤_}
 use mathlib.Core.Path.{_≡_, sym, _∙_}
 use borrow.Author.Needs.{needs}
-use Rattle.kit.specs.Ladder.{ladder, each}
+use Rattle.kit.specs.Each.{each}
+use Rattle.kit.specs.Ladder.{ladder}
 use Rattle.kit.specs.Loops.{first}
 use Rattle.kit.proofs.Ladder.{ladder-each}
 use Rattle.kit.proofs.Loops.{first-go, first-hit, scan-end}

@@ -1,6 +1,7 @@
 -- `put_telegram`: head and four slots, one after another, fill the buffer from its start to its end.
 use mathlib.Core.Path.{sym, ap}
 use Rattle.kit.specs.Bytes.{wordBytes}
+use Rattle.kit.specs.Each.{each}
 use Rattle.kit.proofs.Put.{put-then, put-as, put-whole}
 use Rattle.condition.specs.Slots.{sixOf}
 use Rattle.telegram.specs.Telegrams.{bytesOf}
@@ -46,7 +47,7 @@ same-length : tie.Need-same-length
 same-length c = search needs
 
 returns : tie.Need-returns
-unfolding bytesOf sixOf
+unfolding bytesOf each sixOf
 returns c =
     put-whole (c .before .before .before .before .before .before .before .before .before .before .before .before .before .before .before .before .before .before .before .before .before .before .before .before .before .before .before .pre)
     (put-then (put-as (ap wordBytes (sym (c .before .before .before .before .before .before .before .before .before .before .before .before .before .before .before .before .before .before .before .before .before .before .before .head-of .ensures))) (c .before .before .before .before .before .before .before .before .before .before .before .before .before .before .before .before .before .before .before .before .before .before .put-word .ensures))

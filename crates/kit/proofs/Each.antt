@@ -1,0 +1,30 @@
+-- Laws of `each`, for parts that are all of one size: how long it is, and which part an index lies in.
+use Prim.Native.Nat.{ℕ, zero, suc, _+_, _*_, _<_}
+use mathlib.Core.Path.{_≡_, sym, ap, _∙_}
+use mathlib.Core.List.{List, _++_}
+use lib.ListN.{length, getD, length-append, List·getD-append}
+use lib.Seq.{getD-append-add}
+use native.Mathlib.Omega.{arith}
+use native.Mathlib.Nat.{add-zero, zero-mul, suc-mul}
+use Rattle.kit.specs.Each.{each}
+
+module _ {A : Type 0} (of : ℕ → List A) (size : ℕ) (sized : (i : ℕ) → length (of i) ≡ size) where
+  pub length-each : (k n : ℕ) → length (each of k n) ≡ n * size
+  unfolding each
+  length-each k zero = sym (zero-mul size)
+  length-each k (suc n) = omega (arith, length-append (of k) (each of (k + 1) n), sized k, length-each (k + 1) n, suc-mul n size)
+
+  -- index r of part j
+  pub each-at : (other : A) (k n j r : ℕ) → j < n → r < size → getD (each of k n) (j * size + r) other ≡ getD (of (k + j)) r other
+  unfolding each
+  each-at other k zero j r p q = absurd (omega arith)
+  each-at other k (suc n) zero r p q =
+      let e : 0 * size + r ≡ r = omega (arith, zero-mul size) in
+      let inside : r < length (of k) = omega (arith, sized k) in
+      ap (λ (x : ℕ). getD (of k ++ each of (k + 1) n) x other) e
+      ∙ (List·getD-append (of k) (each of (k + 1) n) other r inside ∙ ap (λ (x : ℕ). getD (of x) r other) (sym (add-zero k)))
+  each-at other k (suc n) (suc j) r p q =
+      let e : suc j * size + r ≡ length (of k) + (j * size + r) = omega (arith, suc-mul j size, sized k) in
+      let f : k + 1 + j ≡ k + suc j = omega arith in
+      ap (λ (x : ℕ). getD (of k ++ each of (k + 1) n) x other) e
+      ∙ (getD-append-add (of k) (each of (k + 1) n) (j * size + r) other ∙ (each-at other (k + 1) n j r (omega arith) q ∙ ap (λ (x : ℕ). getD (of x) r other) f))

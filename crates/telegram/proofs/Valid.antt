@@ -1,0 +1,103 @@
+-- Demand 2: an invalid code never shows as a valid state, for every telegram; and what is accepted can be sent on.
+use Prim.Native.Nat.{ℕ, zero, suc, _+_, _<_, _≤_}
+use mathlib.Core.Path.{_≡_, refl, sym, ap, _∙_, subst}
+use mathlib.Core.Bool.{Bool, true, false, _&&_}
+use mathlib.Core.List.{List, [], _∷_}
+use lib.Dec.{eqb, ltb}
+use lib.ListN.{length, getD}
+use native.Mathlib.Omega.{arith}
+use borrow.Author.Tests.{eqb-true, eqb-false, ltb-false, lt-ltb, not-false}
+use Rattle.kit.specs.Bytes.{Bytes}
+use Rattle.kit.specs.Ladder.{ladder, Silent}
+use Rattle.kit.proofs.Cases.{on, clash, and-second}
+use Rattle.kit.proofs.Ladder.{passed-exactly, silent-append, silent-each}
+use Rattle.kit.proofs.Loops.{any-none}
+use Rattle.condition.specs.Slots.{emptySlot, slotRows, slotIn, Held}
+use Rattle.condition.specs.declared.slots.Slot.{Slot}
+use Rattle.condition.specs.declared.verdicts.Verdict.the-variants.{Accepted}
+use Rattle.condition.proofs.Coding.{read-held}
+use Rattle.telegram.specs.Telegrams.{packetIn, stepIn, place, codedAt, takenBefore, placeRows, readRows, slotAt, telegramOf, readOf, blank}
+use Rattle.telegram.specs.Sendable.{slotOn, Sendable}
+use Rattle.telegram.proofs.Refusals.{reading-accepted}
+use Rattle.telegram.proofs.Rows.{again, read-numbered, read-refused, read-accepted}
+
+-- place by place of four
+four-all : (P : ℕ → Slot → Type 0) (a b c d : Slot) → P 0 a → P 1 b → P 2 c → P 3 d → ((k : ℕ) → P (4 + k) emptySlot)
+    → (k : ℕ) → P k (getD (a ∷ b ∷ c ∷ d ∷ []) k emptySlot)
+four-all P a b c d pa pb pc pd rest zero = pa
+four-all P a b c d pa pb pc pd rest (suc zero) = pb
+four-all P a b c d pa pb pc pd rest (suc (suc zero)) = pc
+four-all P a b c d pa pb pc pd rest (suc (suc (suc zero))) = pd
+four-all P a b c d pa pb pc pd rest (suc (suc (suc (suc k)))) = subst (λ n. P n emptySlot) (omega arith) (rest k)
+
+-- the slot of place k of what 26 bytes mean
+pub slot-meant : (bytes : List ℕ) (k : ℕ) → k < 4 → slotOn (telegramOf bytes) k ≡ slotAt bytes k
+unfolding telegramOf
+slot-meant bytes k p =
+    four-all (λ n x. n < 4 → x ≡ slotAt bytes n) (slotAt bytes 0) (slotAt bytes 1) (slotAt bytes 2) (slotAt bytes 3)
+    (λ q. refl) (λ q. refl) (λ q. refl) (λ q. refl) (λ n q. absurd (omega arith)) k p
+
+module _ (bytes : List ℕ) (s : Silent (readRows bytes)) where
+  pub length-read : length bytes ≡ 26
+  unfolding readRows
+  length-read = eqb-true (length bytes) 26 (not-false (eqb (length bytes) 26) (s .0))
+
+  packet-read : 3 ≤ packetIn bytes
+  unfolding readRows
+  packet-read = ltb-false (packetIn bytes) 3 (s .1 .0)
+
+  place-read : (k : ℕ) → k < 4 → Silent (placeRows bytes k)
+  unfolding readRows
+  place-read k p = silent-each (placeRows bytes) 0 4 (s .1 .1) k (omega arith) (omega arith)
+
+  pub slot-read : (k : ℕ) → k < 4 → Silent (slotRows (codedAt bytes k))
+  slot-read k p = silent-append (slotRows (codedAt bytes k)) (again bytes k (codedAt bytes k)) (place-read k p) .0
+
+  untaken-read : (k : ℕ) → k < 4 → ltb 0 (codedAt bytes k .number) && takenBefore bytes k (codedAt bytes k .number) ≡ false
+  untaken-read k p = silent-append (slotRows (codedAt bytes k)) (again bytes k (codedAt bytes k)) (place-read k p) .1 .0
+
+  held-read : (k : ℕ) → Held (slotOn (telegramOf bytes) k)
+  unfolding telegramOf
+  held-read =
+      four-all (λ n x. Held x) (slotAt bytes 0) (slotAt bytes 1) (slotAt bytes 2) (slotAt bytes 3)
+      (read-held (codedAt bytes 0) (slot-read 0 (omega arith)))
+      (read-held (codedAt bytes 1) (slot-read 1 (omega arith)))
+      (read-held (codedAt bytes 2) (slot-read 2 (omega arith)))
+      (read-held (codedAt bytes 3) (slot-read 3 (omega arith)))
+      (λ k. refl)
+
+  distinct-read : (i j : ℕ) → i < j → j < 4 → 0 < slotOn (telegramOf bytes) i .number → slotOn (telegramOf bytes) i .number ≡ slotOn (telegramOf bytes) j .number → ⊥
+  unfolding takenBefore
+  distinct-read i j p q positive same =
+      let a : slotOn (telegramOf bytes) i .number ≡ getD bytes (place i) 0 = ap (λ x. x .number) (slot-meant bytes i (omega arith)) in
+      let b : slotOn (telegramOf bytes) j .number ≡ getD bytes (place j) 0 = ap (λ x. x .number) (slot-meant bytes j q) in
+      let n : ℕ = getD bytes (place j) 0 in
+      let free : takenBefore bytes j n ≡ false = and-second (ltb 0 n) (takenBefore bytes j n) (untaken-read j q) (lt-ltb 0 n (omega arith)) in
+      eqb-false (getD bytes (place i) 0) n
+      (any-none (λ m. eqb (getD bytes (place m) 0) n) 0 j free i (omega arith) (omega arith))
+      (sym a ∙ (same ∙ b))
+
+-- M-2e: whatever the bytes, no slot that reading gives has a code that document 01 does not allow
+pub never-invalid : (bytes : List ℕ) (k : ℕ) → Held (slotOn (readOf bytes .telegram) k)
+never-invalid bytes k =
+    on (eqb (ladder 0 (readRows bytes)) 0)
+    (λ e.
+    let z : ladder 0 (readRows bytes) ≡ 0 = eqb-true (ladder 0 (readRows bytes)) 0 e in
+    subst (λ r. Held (slotOn (r .telegram) k)) (sym (read-accepted bytes (ladder 0 (readRows bytes)) refl z))
+    (held-read bytes (passed-exactly (readRows bytes) (read-numbered bytes) .0 z) k))
+    (λ e.
+    subst (λ r. Held (slotOn (r .telegram) k)) (sym (read-refused bytes (ladder 0 (readRows bytes)) refl (eqb-false (ladder 0 (readRows bytes)) 0 e)))
+    (four-all (λ n x. Held x) emptySlot emptySlot emptySlot emptySlot refl refl refl refl (λ n. refl) k))
+
+-- what is accepted is a telegram that can be sent
+pub read-sendable : (bytes : List ℕ) → Bytes bytes → Silent (readRows bytes) → Sendable (telegramOf bytes)
+unfolding telegramOf
+read-sendable bytes fits s =
+    record {
+      packet-from = packet-read bytes s;
+      packet-to = omega (arith, fits 0);
+      step-below = omega (arith, fits 0, fits 1);
+      four = refl;
+      held = held-read bytes s;
+      distinct = distinct-read bytes s;
+    }
