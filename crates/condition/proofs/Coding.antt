@@ -2,21 +2,22 @@
 -- and what is read has no code that the table of document 01 does not have.
 use Prim.Native.Nat.{ℕ, _+_, _*_, _/_, _%_, _<_, _≤_}
 use mathlib.Core.Path.{_≡_, refl, sym, ap, _∙_, subst}
-use mathlib.Core.Logic.{_⊎_, inl, inr}
+use mathlib.Core.Logic.{_⊎_, inl, inr, _↔_}
 use mathlib.Core.Bool.{Bool, true, false, cond, not, _&&_, _||_}
 use lib.Dec.{eqb, ltb, leb}
 use native.Mathlib.Omega.{arith}
 use borrow.Author.Tests.{eqb-true, eqb-false, ltb-true, ltb-false, leb-true, eq-eqb, ne-eqb, lt-ltb, le-leb, not-false}
-use Rattle.kit.specs.Ladder.{ladder, Silent, Numbered}
+use Rattle.kit.specs.Ladder.{ladder, Decides, Silent, Numbered}
 use Rattle.kit.proofs.Cases.{on, clash, given, and-both, and-second, above-zero}
-use Rattle.kit.proofs.Ladder.{ladder-silent, passed-exactly}
+use Rattle.kit.proofs.Ladder.{ladder-silent}
 use Rattle.condition.specs.Words.{noValue, isType, tractionWord, currentWord, isConsidered, secondAllowed, secondHeld}
 use Rattle.condition.specs.Slots.{bodyOf, slotRows, slotIn, slotOf, coding, codedOf, settled, HeldBody, Held}
 use Rattle.condition.specs.declared.slots.Body.{Body}
 use Rattle.condition.specs.declared.slots.Body.the-variants.{Empty, Area, Traction, Current}
 use Rattle.condition.specs.declared.slots.Coded.{Coded}
 use Rattle.condition.specs.declared.slots.Slot.{Slot}
-use Rattle.condition.specs.declared.slots.SlotReading.the-variants.{Good}
+use Rattle.condition.specs.declared.verdicts.Verdict.the-variants.{Accepted, Refused}
+use Rattle.condition.proofs.Answers.{verdict-accepted, refused-when, accepted-when}
 
 pub slot-numbered : (c : Coded) → Numbered (slotRows c)
 slot-numbered c = omega arith
@@ -201,7 +202,17 @@ unfolding codedOf
 slot-in-back x h = back (x .number) (x .body) h .1
 
 -- M-2d of a slot
-pub slot-back : (x : Slot) → Held x → slotOf (codedOf x) ≡ Good x
+pub slot-back : (x : Slot) → Held x → slotOf (codedOf x) ≡ record { verdict = Accepted; slot = x }
 unfolding slotOf
 slot-back x h =
-    rw (ladder-silent 0 (slotRows (codedOf x)) (coded-silent x h)) (ap Good (slot-in-back x h))
+    let e : ladder 0 (slotRows (codedOf x)) ≡ 0 = ladder-silent 0 (slotRows (codedOf x)) (coded-silent x h) in
+    rw (verdict-accepted (ladder 0 (slotRows (codedOf x))) e, e) (ap (λ y. record { verdict = Accepted; slot = y }) (slot-in-back x h))
+
+-- R-23 of a slot: refused exactly when the row holds and none above it does, accepted exactly when none does
+pub slot-refused : (c : Coded) (number : ℕ) → (slotOf c .verdict ≡ Refused number) ↔ Decides (slotRows c) number
+unfolding slotOf
+slot-refused c = refused-when (slotRows c) (slot-numbered c)
+
+pub slot-accepted : (c : Coded) → (slotOf c .verdict ≡ Accepted) ↔ Silent (slotRows c)
+unfolding slotOf
+slot-accepted c = accepted-when (slotRows c) (slot-numbered c)

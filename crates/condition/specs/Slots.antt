@@ -7,13 +7,13 @@ use mathlib.Core.List.{List, [], _∷_, _++_}
 use lib.Dec.{eqb, ltb, leb}
 use Rattle.kit.specs.Bytes.{wordBytes}
 use Rattle.kit.specs.Ladder.{ladder}
+use Rattle.condition.specs.Verdicts.{verdictOf}
 use Rattle.condition.specs.Words.{noValue, isType, secondAllowed, secondHeld}
 use Rattle.condition.specs.declared.slots.Body.{Body}
 use Rattle.condition.specs.declared.slots.Body.the-variants.{Empty, Area, Traction, Current}
 use Rattle.condition.specs.declared.slots.Coded.{Coded}
 use Rattle.condition.specs.declared.slots.Slot.{Slot}
 use Rattle.condition.specs.declared.slots.SlotReading.{SlotReading}
-use Rattle.condition.specs.declared.slots.SlotReading.the-variants.{Good, Refused}
 
 -- T-05: the empty slot
 abbrev pub emptySlot : Slot
@@ -38,9 +38,13 @@ slotRows c =
 abbrev pub slotIn : Coded → Slot
 slotIn c = record { number = c .number; body = bodyOf (c .kind) (c .first) (c .second) }
 
--- reading one: refused by the first row that holds, or that slot
+-- reading one: refused by the first row that holds, with the empty slot beside it, or that slot
 unfoldable pub slotOf : Coded → SlotReading
-slotOf c = cond (eqb (ladder 0 (slotRows c)) 0) (Good (slotIn c)) (Refused (ladder 0 (slotRows c)))
+slotOf c =
+    record {
+      verdict = verdictOf (ladder 0 (slotRows c));
+      slot = cond (eqb (ladder 0 (slotRows c)) 0) (slotIn c) emptySlot;
+    }
 
 -- and back; T-05: an empty slot is all zero
 abbrev pub coding : ℕ → Body → Coded

@@ -1,6 +1,6 @@
-// What a condition is: its type, its two words and the rule for the second (words), the slot that holds it and the six bytes'
-// worth of number, type and words that it is coded as (slots), the arithmetic of step numbers (steps), and the answer that
-// every refusing call gives (verdicts).
+// What a condition is: its type, its two words and the rule for the second (words), the slot that holds it and the number, type
+// and two words that code it (slots), the arithmetic of step numbers (steps), and the answer of every call that may refuse
+// (verdicts).
 mod slots;
 mod steps;
 mod verdicts;
@@ -16,9 +16,7 @@ pub use slots::Slot;
 pub use slots::SlotReading;
 pub use steps::gap;
 pub use steps::STEPS;
-pub use verdicts::verdict_of;
 pub use verdicts::Verdict;
-pub use words::considered;
 pub use words::second_allowed;
 pub use words::second_held;
 pub use words::NO_VALUE;

@@ -2,8 +2,14 @@
 ghost use mathlib.Core.Path.{_≡_};
 ghost use Rattle.kit.specs.Ladder.{ladder};
 ghost use Rattle.condition.specs.Slots.{bodyOf, slotRows, slotOf, codedOf};
+use crate::verdicts::Verdict;
 use crate::words::second_allowed;
 use crate::words::second_held;
+use crate::words::COUNTRIES;
+use crate::words::CURRENT;
+use crate::words::LAST_KIND;
+use crate::words::TRACTION;
+use crate::words::VOLTAGES;
 
 // What a slot holds. That it is empty is this enum's word, and not that its number is 0.
 pub enum Body {
@@ -26,9 +32,10 @@ pub struct Coded {
     pub second: u16,
 }
 
-pub enum SlotReading {
-    Good(Slot),
-    Refused(u8),
+// Beside a refusal stands the empty slot.
+pub struct SlotReading {
+    pub verdict: Verdict,
+    pub slot: Slot,
 }
 
 // The body that a type and two words make. A type that is not 1 to 9 makes none.
@@ -36,14 +43,14 @@ pub fn body_of(kind: u8, first: u16, second: u16) -> Body
     ensures { λ r. ⌜ r ≡ bodyOf kind first second ⌝ }
 {
     let held = second_held(kind, first, second);
-    if kind == 4 {
+    if kind == TRACTION {
         return Body::Traction {
             change: first,
-            country: held / 16 % 1024,
-            voltage: (held % 16) as u8,
+            country: held / VOLTAGES % COUNTRIES,
+            voltage: (held % VOLTAGES) as u8,
         };
     }
-    if kind == 5 {
+    if kind == CURRENT {
         return Body::Current {
             change: first,
             limit: held,
@@ -52,7 +59,7 @@ pub fn body_of(kind: u8, first: u16, second: u16) -> Body
     if kind == 0 {
         return Body::Empty;
     }
-    if 9 < kind {
+    if LAST_KIND < kind {
         return Body::Empty;
     }
     Body::Area {
@@ -81,7 +88,7 @@ pub fn refusal_of(coded: Coded) -> u8
     if coded.kind == 0 {
         return 13;
     }
-    if 9 < coded.kind {
+    if LAST_KIND < coded.kind {
         return 13;
     }
     if second_allowed(coded.kind, coded.first, coded.second) {
@@ -96,12 +103,21 @@ pub fn slot_of(coded: Coded) -> SlotReading
 {
     let refusal = refusal_of(coded);
     if refusal != 0 {
-        return SlotReading::Refused(refusal);
+        return SlotReading {
+            verdict: Verdict::Refused(refusal),
+            slot: Slot {
+                number: 0,
+                body: Body::Empty,
+            },
+        };
     }
-    SlotReading::Good(Slot {
-        number: coded.number,
-        body: body_of(coded.kind, coded.first, coded.second),
-    })
+    SlotReading {
+        verdict: Verdict::Accepted,
+        slot: Slot {
+            number: coded.number,
+            body: body_of(coded.kind, coded.first, coded.second),
+        },
+    }
 }
 
 // A slot, coded. Of a country and a voltage the ten and the four bits that have room are written: a slot that a desk or a reader
@@ -125,13 +141,13 @@ pub fn coded_of(slot: Slot) -> Coded
         },
         Body::Traction { change, country, voltage } => Coded {
             number: slot.number,
-            kind: 4,
+            kind: TRACTION,
             first: change,
-            second: country % 1024 * 16 + (voltage % 16) as u16,
+            second: country % COUNTRIES * VOLTAGES + voltage as u16 % VOLTAGES,
         },
         Body::Current { change, limit } => Coded {
             number: slot.number,
-            kind: 5,
+            kind: CURRENT,
             first: change,
             second: limit,
         },

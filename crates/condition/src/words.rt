@@ -5,16 +5,23 @@ ghost use Rattle.condition.specs.Words.{isConsidered, secondAllowed, sec
 // A distance with no value. 7FFFh and 8001h are ordinary distances.
 pub const NO_VALUE: u16 = 0x8000;
 
-const TRACTION: u8 = 4;
-const CURRENT: u8 = 5;
-const VOLTAGES: u16 = 16;
+// The types whose second word is no distance; the highest type.
+pub const TRACTION: u8 = 4;
+pub const CURRENT: u8 = 5;
+pub const LAST_KIND: u8 = 9;
+
+// Of a change of traction system, the second word has the voltage in its low four bits and the country in the ten above. The two
+// bits above those are zero.
+pub const VOLTAGES: u16 = 16;
+pub const COUNTRIES: u16 = 1024;
 const VOLTAGE_MOST: u16 = 5;
-const SPARE_BITS: u16 = 0x4000;
+const ABOVE_COUNTRY: u16 = 0x4000;
+
 const LIMIT_MOST: u16 = 1000;
 const NO_RESTRICTION: u16 = 1023;
 
 // Whether the second word is looked at: not for a change of traction system or of current whose change distance is missing.
-pub fn considered(kind: u8, first: u16) -> bool
+fn considered(kind: u8, first: u16) -> bool
     ensures { λ r. ⌜ r ≡ isConsidered kind first ⌝ }
 {
     if first == NO_VALUE {
@@ -34,7 +41,7 @@ pub fn second_allowed(kind: u8, first: u16, second: u16) -> bool
         return true;
     }
     if kind == TRACTION {
-        if second < SPARE_BITS {
+        if second < ABOVE_COUNTRY {
             return second % VOLTAGES <= VOLTAGE_MOST;
         }
         return false;

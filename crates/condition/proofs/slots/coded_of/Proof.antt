@@ -17,8 +17,8 @@ enum-known-body-2 c = search needs
 mul-t13 : tie.Need-mul-t13
 mul-t13 c = search needs
 
-cast-t15 : tie.Need-cast-t15
-cast-t15 c = search needs
+cast-t14 : tie.Need-cast-t14
+cast-t14 c = search needs
 
 add-t16 : tie.Need-add-t16
 add-t16 c = search needs
@@ -50,7 +50,7 @@ coded-of-spec =
     enum-known-body
     enum-known-body-2
     mul-t13
-    cast-t15
+    cast-t14
     add-t16
     enum-known-body-3
     returns
