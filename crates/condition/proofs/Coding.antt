@@ -1,16 +1,16 @@
 -- A slot coded and read is that slot; a coded slot read and coded again is the same but for a second word that is not considered;
 -- and what is read has no code that the table of document 01 does not have.
 use Prim.Native.Nat.{ℕ, _+_, _*_, _/_, _%_, _<_, _≤_}
-use mathlib.Core.Path.{_≡_, refl, sym, ap, _∙_, subst}
+use mathlib.Core.Path.{_≡_, refl, sym, ap, subst}
 use mathlib.Core.Logic.{_⊎_, inl, inr, _↔_}
-use mathlib.Core.Bool.{Bool, true, false, cond, not, _&&_, _||_}
+use mathlib.Core.Bool.{true, false, not, _&&_, _||_}
 use lib.Dec.{eqb, ltb, leb}
 use native.Mathlib.Omega.{arith}
-use borrow.Author.Tests.{eqb-true, eqb-false, ltb-true, ltb-false, leb-true, eq-eqb, ne-eqb, lt-ltb, le-leb, not-false}
+use borrow.Author.Tests.{eqb-true, eqb-false, ltb-true, leb-true, ne-eqb, lt-ltb, le-leb, not-false}
 use Rattle.kit.specs.Ladder.{ladder, Decides, Silent, Numbered}
-use Rattle.kit.proofs.Cases.{on, clash, given, and-both, and-second, above-zero}
+use Rattle.kit.proofs.Cases.{on, given, and-both, and-second, above-zero}
 use Rattle.kit.proofs.Ladder.{ladder-silent}
-use Rattle.condition.specs.Words.{noValue, isType, tractionWord, currentWord, isConsidered, secondAllowed, secondHeld}
+use Rattle.condition.specs.Words.{noValue, isType, isConsidered, secondAllowed, secondHeld}
 use Rattle.condition.specs.Slots.{bodyOf, slotRows, slotIn, slotOf, coding, codedOf, settled, HeldBody, Held}
 use Rattle.condition.specs.declared.slots.Body.{Body}
 use Rattle.condition.specs.declared.slots.Body.the-variants.{Empty, Area, Traction, Current}
@@ -72,12 +72,13 @@ module _ (number first second : ℕ) (p : 0 < number) where
       on (eqb first noValue)
       (λ e. rw e (p, inl (omega arith), λ z. refl))
       (λ e.
-      rw e
-      (p,
-      on (leb second 1000)
-      (λ low. inl (leb-true second 1000 low))
-      (λ high. inr (eqb-true second 1023 (rw high at (rw e at a)))),
-      λ z. absurd (eqb-false first noValue e z)))
+      rw e (
+        p,
+        on (leb second 1000)
+            (λ low. inl (leb-true second 1000 low))
+            (λ high. inr (eqb-true second 1023 (rw high at (rw e at a)))),
+        λ z. absurd (eqb-false first noValue e z),
+      ))
 
   area-held : (kind : ℕ) → isType kind ≡ true → eqb kind 4 ≡ false → eqb kind 5 ≡ false → HeldBody number (bodyOf kind first second)
   unfolding bodyOf
@@ -161,32 +162,36 @@ unfolding bodyOf secondAllowed secondHeld isConsidered
 back number Empty w = ((refl, (refl, (refl, tt))), ap (λ n. record { number = n; body = Empty }) (sym w))
 back number (Area kind entry exit) (p, t, a, b) =
     let n0 : eqb number 0 ≡ false = ne-eqb number 0 (omega arith) in
-    let n1 : ltb 0 number ≡ true = lt-ltb 0 number p in
-    ((rw n0 refl, (rw (n1, t) refl, (on (eqb entry noValue) (λ e. rw (e, a, b) refl) (λ e. rw (e, a, b) refl), tt))),
-    rw (a, b, t) refl)
+    let n1 : ltb 0 number ≡ true = lt-ltb 0 number p in (
+      (rw n0 refl, (rw (n1, t) refl, (on (eqb entry noValue) (λ e. rw (e, a, b) refl) (λ e. rw (e, a, b) refl), tt))),
+      rw (a, b, t) refl,
+    )
 back number (Traction change country voltage) (p, c, v, z) =
     let n0 : eqb number 0 ≡ false = ne-eqb number 0 (omega arith) in
     let n1 : ltb 0 number ≡ true = lt-ltb 0 number p in
     let second : ℕ = country % 1024 * 16 + voltage % 16 in
     on (eqb change noValue)
     (λ e.
-    given (z (eqb-true change noValue e)) (λ (cz, vz).
-    ((rw n0 refl, (rw n1 refl, (rw e refl, tt))),
-    rw e (λ i. record { number = number; body = Traction change (sym cz i) (sym vz i) }))))
+    given (z (eqb-true change noValue e)) (λ (cz, vz). (
+      (rw n0 refl, (rw n1 refl, (rw e refl, tt))),
+      rw e (λ i. record { number = number; body = Traction change (sym cz i) (sym vz i) }),
+    )))
     (λ e.
     let s1 : ltb second 0x4000 ≡ true = lt-ltb second 0x4000 (omega arith) in
     let s2 : leb (second % 16) 5 ≡ true = le-leb (second % 16) 5 (omega arith) in
     let c1 : second / 16 % 1024 ≡ country = omega arith in
-    let v1 : second % 16 ≡ voltage = omega arith in
-    ((rw n0 refl, (rw n1 refl, (rw (e, s1, s2) refl, tt))),
-    rw e (λ i. record { number = number; body = Traction change (c1 i) (v1 i) })))
+    let v1 : second % 16 ≡ voltage = omega arith in (
+      (rw n0 refl, (rw n1 refl, (rw (e, s1, s2) refl, tt))),
+      rw e (λ i. record { number = number; body = Traction change (c1 i) (v1 i) }),
+    ))
 back number (Current change limit) (p, l, z) =
     let n0 : eqb number 0 ≡ false = ne-eqb number 0 (omega arith) in
     let n1 : ltb 0 number ≡ true = lt-ltb 0 number p in
     on (eqb change noValue)
-    (λ e.
-    ((rw n0 refl, (rw n1 refl, (rw e refl, tt))),
-    rw e (λ i. record { number = number; body = Current change (sym (z (eqb-true change noValue e)) i) })))
+    (λ e. (
+      (rw n0 refl, (rw n1 refl, (rw e refl, tt))),
+      rw e (λ i. record { number = number; body = Current change (sym (z (eqb-true change noValue e)) i) }),
+    ))
     (λ e. ((rw n0 refl, (rw n1 refl, (rw (e, allowed l) refl, tt))), rw e refl))
   where
     allowed : (limit ≤ 1000) ⊎ (limit ≡ 1023) → leb limit 1000 || eqb limit 1023 ≡ true

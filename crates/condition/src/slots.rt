@@ -3,20 +3,31 @@ ghost use mathlib.Core.Path.{_≡_};
 ghost use Rattle.kit.specs.Ladder.{ladder};
 ghost use Rattle.condition.specs.Slots.{bodyOf, slotRows, slotOf, codedOf};
 use crate::verdicts::Verdict;
-use crate::words::second_allowed;
-use crate::words::second_held;
 use crate::words::COUNTRIES;
 use crate::words::CURRENT;
 use crate::words::LAST_KIND;
 use crate::words::TRACTION;
 use crate::words::VOLTAGES;
+use crate::words::second_allowed;
+use crate::words::second_held;
 
 // What a slot holds. That it is empty is this enum's word, and not that its number is 0.
 pub enum Body {
     Empty,
-    Area { kind: u8, entry: u16, exit: u16 },
-    Traction { change: u16, country: u16, voltage: u8 },
-    Current { change: u16, limit: u16 },
+    Area {
+        kind: u8,
+        entry: u16,
+        exit: u16,
+    },
+    Traction {
+        change: u16,
+        country: u16,
+        voltage: u8,
+    },
+    Current {
+        change: u16,
+        limit: u16,
+    },
 }
 
 pub struct Slot {
@@ -139,7 +150,11 @@ pub fn coded_of(slot: Slot) -> Coded
             first: entry,
             second: exit,
         },
-        Body::Traction { change, country, voltage } => Coded {
+        Body::Traction {
+            change,
+            country,
+            voltage,
+        } => Coded {
             number: slot.number,
             kind: TRACTION,
             first: change,

@@ -7,17 +7,23 @@ pub const NO_VALUE: u16 = 0x8000;
 
 // The types whose second word is no distance; the highest type.
 pub const TRACTION: u8 = 4;
+
 pub const CURRENT: u8 = 5;
+
 pub const LAST_KIND: u8 = 9;
 
 // Of a change of traction system, the second word has the voltage in its low four bits and the country in the ten above. The two
 // bits above those are zero.
 pub const VOLTAGES: u16 = 16;
+
 pub const COUNTRIES: u16 = 1024;
+
 const VOLTAGE_MOST: u16 = 5;
+
 const ABOVE_COUNTRY: u16 = 0x4000;
 
 const LIMIT_MOST: u16 = 1000;
+
 const NO_RESTRICTION: u16 = 1023;
 
 // Whether the second word is looked at: not for a change of traction system or of current whose change distance is missing.

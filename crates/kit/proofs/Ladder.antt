@@ -3,7 +3,7 @@
 -- `refused-exactly` and `passed-exactly` are the law in both directions (R-23): the answer is n exactly when a row with n holds and
 -- no row above it does, and 0 exactly when no row holds. The rest is for the code, which climbs a ladder row by row and thing by thing.
 use Prim.Native.Nat.{ℕ, zero, suc, _+_, _<_, _≤_}
-use mathlib.Core.Path.{_≡_, refl, sym, ap, _∙_, subst}
+use mathlib.Core.Path.{_≡_, refl, ap, _∙_, subst}
 use mathlib.Core.Logic.{_⊎_, inl, inr, _↔_}
 use mathlib.Core.Bool.{Bool, true, false, cond, not}
 use mathlib.Core.List.{List, [], _∷_, _++_}
@@ -13,7 +13,7 @@ use borrow.Author.Tests.{eqb-true, eqb-false}
 use Rattle.kit.specs.Ladder.{ladder, Decides, Silent, Numbered}
 use Rattle.kit.specs.Each.{each}
 use Rattle.kit.specs.Loops.{first, scan}
-use Rattle.kit.proofs.Cases.{on, clash, given}
+use Rattle.kit.proofs.Cases.{on, given}
 
 module _ {A : Type 0} where
   pub ladder-decides : (other answer : A) (rows : List (Bool × A)) → Decides rows answer → ladder other rows ≡ answer

@@ -1,10 +1,10 @@
 -- Laws of `Put`: one byte, one run after another, and a run that fills the buffer.
-use Prim.Native.Nat.{ℕ, zero, suc, _+_, _≤_}
+use Prim.Native.Nat.{ℕ, suc, _+_, _≤_}
 use mathlib.Core.Path.{_≡_, refl, sym, ap, _∙_, subst}
 use mathlib.Core.List.{List, [], _∷_, _++_, append-nil}
-use lib.ListN.{length, take, drop, set, length-append, drop-of-length-le}
+use lib.ListN.{length, drop, set, length-append, drop-of-length-le}
 use lib.Seq.{sets, sets-eq, length-sets}
-use native.Mathlib.Nat.{add-zero, zero-add}
+use native.Mathlib.Nat.{add-zero}
 use native.Mathlib.Omega.{arith}
 use Rattle.kit.specs.Put.{Put}
 
@@ -24,7 +24,8 @@ pub put-then : {l m n : List ℕ} {i j k : ℕ} {a b : List ℕ} → Put l i a m
 put-then {l} {m} {n} {i} {j} {k} {a} {b} p q =
     record {
       stored = q .stored ∙ (ap (λ (x : List ℕ). sets x j b) (p .stored) ∙ (ap (λ (x : ℕ). sets (sets l i a) x b) (p .past) ∙ sets-append l i a b));
-      past = let e = length-append a b in omega (arith, p .past, q .past, e) }
+      past = let e = length-append a b in omega (arith, p .past, q .past, e);
+    }
 
 -- the same bytes under another name
 pub put-as : {l m : List ℕ} {i j : ℕ} {a b : List ℕ} → a ≡ b → Put l i b m j → Put l i a m j

@@ -1,26 +1,25 @@
 -- Demand 2: reading a written telegram gives it back, for all slots that a desk or a reader can hold.
-use Prim.Native.Nat.{ℕ, _+_, _<_, _≤_}
+use Prim.Native.Nat.{ℕ, _<_}
 use mathlib.Core.Path.{_≡_, refl, sym, ap, _∙_, subst}
-use mathlib.Core.Bool.{Bool, true, false, not, _&&_}
-use mathlib.Core.List.{List, [], _∷_}
+use mathlib.Core.Bool.{true, false, _&&_}
+use mathlib.Core.List.{[], _∷_}
 use lib.Dec.{eqb, ltb}
 use lib.ListN.{length, getD}
 use native.Mathlib.Omega.{arith}
 use borrow.Author.Tests.{ltb-true, eq-eqb, ne-eqb, le-ltb}
-use Rattle.kit.specs.Each.{each}
-use Rattle.kit.specs.Ladder.{ladder, Silent}
+use Rattle.kit.specs.Ladder.{Silent}
 use Rattle.kit.proofs.Cases.{on}
 use Rattle.kit.proofs.Ladder.{ladder-silent, silent-join, silent-all}
 use Rattle.kit.proofs.Loops.{scan-none}
-use Rattle.condition.specs.Slots.{emptySlot, slotRows, slotIn, coding, codedOf, HeldBody, Held}
+use Rattle.condition.specs.Slots.{slotRows, slotIn, coding, codedOf, HeldBody}
 use Rattle.condition.specs.declared.slots.Body.{Body}
 use Rattle.condition.specs.declared.slots.Body.the-variants.{Empty, Area, Traction, Current}
-use Rattle.condition.specs.declared.slots.Slot.{Slot}
 use Rattle.condition.specs.declared.verdicts.Verdict.the-variants.{Accepted}
 use Rattle.condition.proofs.Coding.{coded-silent, slot-in-back}
 use Rattle.telegram.specs.Telegrams.{place, codedAt, takenBefore, placeRows, readRows, slotAt, telegramOf, readOf, bytesOf}
 use Rattle.telegram.specs.Sendable.{slotOn, Sendable}
 use Rattle.telegram.specs.declared.reading.Telegram.{Telegram}
+use Rattle.telegram.proofs.Four.{four-list}
 use Rattle.telegram.proofs.Rows.{again, read-accepted}
 use Rattle.telegram.proofs.Wire.{length-bytes, coded-on, packet-on, step-on}
 
@@ -30,14 +29,6 @@ coded-number number Empty h = sym h
 coded-number number (Area k a b) h = refl
 coded-number number (Traction a c v) h = refl
 coded-number number (Current a l) h = refl
-
-four-list : (l : List Slot) → length l ≡ 4 → getD l 0 emptySlot ∷ getD l 1 emptySlot ∷ getD l 2 emptySlot ∷ getD l 3 emptySlot ∷ [] ≡ l
-four-list [] h = absurd (omega arith)
-four-list (a ∷ []) h = absurd (omega arith)
-four-list (a ∷ b ∷ []) h = absurd (omega arith)
-four-list (a ∷ b ∷ c ∷ []) h = absurd (omega arith)
-four-list (a ∷ b ∷ c ∷ d ∷ []) h = refl
-four-list (a ∷ b ∷ c ∷ d ∷ e ∷ l) h = absurd (omega arith)
 
 module _ (t : Telegram) (s : Sendable t) where
   number-on : (k : ℕ) → k < 4 → codedAt (bytesOf t) k .number ≡ slotOn t k .number
@@ -69,10 +60,13 @@ module _ (t : Telegram) (s : Sendable t) where
   -- no row refuses it
   pub sent-silent : Silent (readRows (bytesOf t))
   unfolding readRows
-  sent-silent =
-      (rw (eq-eqb (length (bytesOf t)) 26 (length-bytes t)) refl,
-      (rw (packet-on t (s .packet-to)) (le-ltb (t .packet) 3 (s .packet-from)),
-      silent-all (placeRows (bytesOf t)) 0 4 (λ k low below. places-silent k (omega arith))))
+  sent-silent = (
+    rw (eq-eqb (length (bytesOf t)) 26 (length-bytes t)) refl,
+    (
+      rw (packet-on t (s .packet-to)) (le-ltb (t .packet) 3 (s .packet-from)),
+      silent-all (placeRows (bytesOf t)) 0 4 (λ k low below. places-silent k (omega arith)),
+    ),
+  )
 
   slot-on : (k : ℕ) → k < 4 → slotAt (bytesOf t) k ≡ slotOn t k
   slot-on k p = ap slotIn (coded-on t k p) ∙ slot-in-back (slotOn t k) (s .held k)
@@ -81,7 +75,7 @@ module _ (t : Telegram) (s : Sendable t) where
   unfolding telegramOf
   meant =
       let slots : slotAt (bytesOf t) 0 ∷ slotAt (bytesOf t) 1 ∷ slotAt (bytesOf t) 2 ∷ slotAt (bytesOf t) 3 ∷ [] ≡ t .slots =
-        rw (slot-on 0 (omega arith), slot-on 1 (omega arith), slot-on 2 (omega arith), slot-on 3 (omega arith)) (four-list (t .slots) (s .four)) in
+      rw (slot-on 0 (omega arith), slot-on 1 (omega arith), slot-on 2 (omega arith), slot-on 3 (omega arith)) (four-list (t .slots) (s .four)) in
       λ i. record { packet = packet-on t (s .packet-to) i; step = step-on t (s .step-below) i; slots = slots i }
 
   -- M-2d

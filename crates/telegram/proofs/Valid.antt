@@ -1,34 +1,23 @@
 -- Demand 2: an invalid code never shows as a valid state, for every telegram; and what is accepted can be sent on.
-use Prim.Native.Nat.{ℕ, zero, suc, _+_, _<_, _≤_}
+use Prim.Native.Nat.{ℕ, _<_, _≤_}
 use mathlib.Core.Path.{_≡_, refl, sym, ap, _∙_, subst}
-use mathlib.Core.Bool.{Bool, true, false, _&&_}
-use mathlib.Core.List.{List, [], _∷_}
+use mathlib.Core.Bool.{false, _&&_}
+use mathlib.Core.List.{List}
 use lib.Dec.{eqb, ltb}
 use lib.ListN.{length, getD}
 use native.Mathlib.Omega.{arith}
 use borrow.Author.Tests.{eqb-true, eqb-false, ltb-false, lt-ltb, not-false}
 use Rattle.kit.specs.Bytes.{Bytes}
 use Rattle.kit.specs.Ladder.{ladder, Silent}
-use Rattle.kit.proofs.Cases.{on, clash, and-second}
+use Rattle.kit.proofs.Cases.{on, and-second}
 use Rattle.kit.proofs.Ladder.{passed-exactly, silent-append, silent-each}
 use Rattle.kit.proofs.Loops.{any-none}
-use Rattle.condition.specs.Slots.{emptySlot, slotRows, slotIn, Held}
-use Rattle.condition.specs.declared.slots.Slot.{Slot}
-use Rattle.condition.specs.declared.verdicts.Verdict.the-variants.{Accepted}
+use Rattle.condition.specs.Slots.{emptySlot, slotRows, Held}
 use Rattle.condition.proofs.Coding.{read-held}
-use Rattle.telegram.specs.Telegrams.{packetIn, stepIn, place, codedAt, takenBefore, placeRows, readRows, slotAt, telegramOf, readOf, blank}
+use Rattle.telegram.specs.Telegrams.{packetIn, place, codedAt, takenBefore, placeRows, readRows, slotAt, telegramOf, readOf}
 use Rattle.telegram.specs.Sendable.{slotOn, Sendable}
-use Rattle.telegram.proofs.Refusals.{reading-accepted}
+use Rattle.telegram.proofs.Four.{four-all}
 use Rattle.telegram.proofs.Rows.{again, read-numbered, read-refused, read-accepted}
-
--- place by place of four
-four-all : (P : ℕ → Slot → Type 0) (a b c d : Slot) → P 0 a → P 1 b → P 2 c → P 3 d → ((k : ℕ) → P (4 + k) emptySlot)
-    → (k : ℕ) → P k (getD (a ∷ b ∷ c ∷ d ∷ []) k emptySlot)
-four-all P a b c d pa pb pc pd rest zero = pa
-four-all P a b c d pa pb pc pd rest (suc zero) = pb
-four-all P a b c d pa pb pc pd rest (suc (suc zero)) = pc
-four-all P a b c d pa pb pc pd rest (suc (suc (suc zero))) = pd
-four-all P a b c d pa pb pc pd rest (suc (suc (suc (suc k)))) = subst (λ n. P n emptySlot) (omega arith) (rest k)
 
 -- the slot of place k of what 26 bytes mean
 pub slot-meant : (bytes : List ℕ) (k : ℕ) → k < 4 → slotOn (telegramOf bytes) k ≡ slotAt bytes k

@@ -1,15 +1,14 @@
 -- What stands where in the 26 bytes that a telegram is written as.
 use Prim.Native.Nat.{ℕ, suc, _+_, _*_, _/_, _%_, _<_, _≤_}
-use mathlib.Core.Path.{_≡_, refl, sym, ap, _∙_}
-use mathlib.Core.List.{List, [], _∷_, _++_}
+use mathlib.Core.Path.{_≡_, refl, ap, _∙_}
+use mathlib.Core.List.{List}
 use lib.ListN.{length, getD}
 use native.Mathlib.Nat.{zero-add}
 use native.Mathlib.Omega.{arith}
 use Rattle.kit.specs.Bytes.{word}
-use Rattle.kit.specs.Each.{each}
 use Rattle.kit.proofs.Bytes.{word-back}
 use Rattle.kit.proofs.Each.{length-each, each-at}
-use Rattle.condition.specs.Slots.{emptySlot, codedOf, sixOf}
+use Rattle.condition.specs.Slots.{codedOf, sixOf}
 use Rattle.condition.specs.Steps.{steps}
 use Rattle.condition.specs.declared.slots.Coded.{Coded}
 use Rattle.condition.specs.declared.slots.Slot.{Slot}

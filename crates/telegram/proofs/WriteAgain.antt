@@ -1,11 +1,11 @@
 -- Demand 2: writing a read telegram gives the same 26 bytes, but for the one place that document 01 names (K-10 to K-12): the second
 -- word of a slot of type 4 or 5 whose change distance is 8000h, which is written as zero.
-use Prim.Native.Nat.{ℕ, zero, suc, _+_, _-_, _*_, _/_, _%_, _<_, _≤_}
+use Prim.Native.Nat.{ℕ, zero, suc, _+_, _-_, _*_, _/_, _%_, _<_}
 use mathlib.Core.Path.{_≡_, refl, sym, ap, _∙_}
-use mathlib.Core.Bool.{Bool, true, false, cond, not, _&&_}
+use mathlib.Core.Bool.{Bool, cond, not, _&&_}
 use mathlib.Core.List.{List}
 use lib.Dec.{leb}
-use lib.ListN.{length, getD}
+use lib.ListN.{getD}
 use native.Mathlib.Nat.{add-zero}
 use native.Mathlib.Omega.{arith}
 use borrow.Author.Tests.{leb-true, leb-false}
@@ -13,11 +13,11 @@ use Rattle.kit.specs.Bytes.{Bytes, word}
 use Rattle.kit.specs.Ladder.{Silent}
 use Rattle.kit.proofs.Bytes.{high-back, low-back}
 use Rattle.kit.proofs.Cases.{on}
-use Rattle.condition.specs.Slots.{slotIn, codedOf, settled, sixOf}
+use Rattle.condition.specs.Slots.{codedOf, settled, sixOf}
 use Rattle.condition.specs.Words.{isConsidered, secondHeld}
 use Rattle.condition.proofs.Coding.{coded-back}
-use Rattle.telegram.specs.Telegrams.{place, codedAt, readRows, slotAt, headOf, sixAt, telegramOf, bytesOf}
-use Rattle.telegram.specs.Sendable.{slotOn, isIdle}
+use Rattle.telegram.specs.Telegrams.{place, codedAt, readRows, headOf, sixAt, telegramOf, bytesOf}
+use Rattle.telegram.specs.Sendable.{isIdle}
 use Rattle.telegram.proofs.Valid.{slot-meant, slot-read}
 use Rattle.telegram.proofs.Wire.{byte-at}
 

@@ -3,9 +3,9 @@ mod reading;
 mod tables;
 mod writing;
 
-pub use reading::read;
 pub use reading::Reading;
 pub use reading::Telegram;
+pub use reading::read;
 pub use tables::first_slot;
 pub use tables::four_of;
 pub use writing::write;

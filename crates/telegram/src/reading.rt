@@ -4,7 +4,7 @@ use condition::Coded;
 use condition::Slot;
 use condition::Verdict;
 ghost use mathlib.Core.Path.{_≡_};
-ghost use Prim.Native.Nat.{ℕ, _<_, _≤_};
+ghost use Prim.Native.Nat.{_<_, _≤_};
 ghost use lib.ListN.{length};
 ghost use Rattle.kit.specs.Bytes.{word};
 ghost use Rattle.kit.specs.Each.{each};
@@ -124,7 +124,12 @@ fn telegram_of(bytes: &[u8]) -> Telegram
     requires { ⌜ length (now bytes) ≡ 26 ⌝ }
     ensures { λ r. ⌜ r ≡ telegramOf (now (bytes .entry)) ⌝ }
 {
-    let slots = [slot_at(bytes, 0), slot_at(bytes, 1), slot_at(bytes, 2), slot_at(bytes, 3)];
+    let slots = [
+        slot_at(bytes, 0),
+        slot_at(bytes, 1),
+        slot_at(bytes, 2),
+        slot_at(bytes, 3),
+    ];
     Telegram {
         packet: bytes[0] / 32,
         step: word(bytes[0] % 32, bytes[1]),

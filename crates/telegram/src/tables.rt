@@ -2,7 +2,6 @@
 use condition::Body;
 use condition::Slot;
 ghost use mathlib.Core.Path.{_≡_};
-ghost use Prim.Native.Nat.{ℕ};
 ghost use lib.ListN.{getD};
 ghost use Rattle.condition.specs.Slots.{emptySlot};
 ghost use Rattle.telegram.specs.Tables.{firstSlot, fourOf};
@@ -35,5 +34,10 @@ pub fn four_of(table: [Slot; 20], packet: u8) -> [Slot; 4]
     ensures { λ r. ⌜ r ≡ fourOf table packet ⌝ }
 {
     let at = first_slot(packet);
-    [slot_in(table, at), slot_in(table, at + 1), slot_in(table, at + 2), slot_in(table, at + 3)]
+    [
+        slot_in(table, at),
+        slot_in(table, at + 1),
+        slot_in(table, at + 2),
+        slot_in(table, at + 3),
+    ]
 }

@@ -1,11 +1,11 @@
 // Writing a telegram into a buffer of any length: refused 9, then 10, with no byte changed, or all 26 bytes.
+use crate::reading::Telegram;
 use condition::Coded;
 use condition::Slot;
 use condition::Verdict;
-use crate::reading::Telegram;
 ghost use mathlib.Core.Path.{_≡_};
-ghost use mathlib.Core.List.{List, [], _∷_, _++_};
-ghost use Prim.Native.Nat.{ℕ, _+_, _<_, _≤_};
+ghost use mathlib.Core.List.{[], _∷_};
+ghost use Prim.Native.Nat.{_+_, _<_, _≤_};
 ghost use lib.ListN.{length};
 ghost use Rattle.kit.specs.Bytes.{wordBytes};
 ghost use Rattle.kit.specs.Ladder.{ladder};

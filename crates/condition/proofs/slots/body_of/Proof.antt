@@ -28,20 +28,22 @@ returns-3 c = simp (ne-eqb _ _ (c .before .before .if1 .left), ne-eqb _ _ (c .be
 returns-4 : tie.Need-returns-4
 unfolding bodyOf
 returns-4 c =
-    simp
-    (ne-eqb _ _ (c .before .before .before .if1 .left),
-    ne-eqb _ _ (c .before .before .if2 .left),
-    above-zero _ (c .before .if3 .left),
-    lt-leb _ _ (c .if4 .taken))
+    simp (
+      ne-eqb _ _ (c .before .before .before .if1 .left),
+      ne-eqb _ _ (c .before .before .if2 .left),
+      above-zero _ (c .before .if3 .left),
+      lt-leb _ _ (c .if4 .taken),
+    )
 
 returns-5 : tie.Need-returns-5
 unfolding bodyOf
 returns-5 c =
-    simp
-    (ne-eqb _ _ (c .before .before .before .if1 .left),
-    ne-eqb _ _ (c .before .before .if2 .left),
-    above-zero _ (c .before .if3 .left),
-    le-leb _ _ (c .if4 .left))
+    simp (
+      ne-eqb _ _ (c .before .before .before .if1 .left),
+      ne-eqb _ _ (c .before .before .if2 .left),
+      above-zero _ (c .before .if3 .left),
+      le-leb _ _ (c .if4 .left),
+    )
 
 pub body-of-spec : {M : Type 1} → statement M
 body-of-spec =

@@ -1,7 +1,7 @@
 -- `refusal_of`: each answer by the tests that led to it, row by row of the ladder.
 use mathlib.Core.Path.{_≡_, refl, sym, _∙_}
 use Rattle.kit.proofs.Cases.{above-zero, at-zero}
-use borrow.Author.Tests.{eq-eqb, ne-eqb, lt-ltb, le-leb, lt-leb}
+use borrow.Author.Tests.{eq-eqb, ne-eqb, le-leb, lt-leb}
 use Rattle.kit.specs.Ladder.{ladder}
 use Rattle.condition.specs.Words.{isConsidered, secondAllowed}
 use Rattle.condition.specs.Slots.{slotRows}
@@ -41,11 +41,12 @@ returns-5 c =
 returns-6 : tie.Need-returns-6
 unfolding ladder
 returns-6 c =
-    simp
-    (ne-eqb _ _ (c .before .before .before .before .if1 .left),
-    above-zero _ (c .before .before .before .before .if1 .left),
-    above-zero _ (c .before .before .if5 .left),
-    lt-leb _ _ (c .if6 .taken))
+    simp (
+      ne-eqb _ _ (c .before .before .before .before .if1 .left),
+      above-zero _ (c .before .before .before .before .if1 .left),
+      above-zero _ (c .before .before .if5 .left),
+      lt-leb _ _ (c .if6 .taken),
+    )
 
 second-allowed-requires : tie.Need-second-allowed-requires
 second-allowed-requires c κs = search needs
@@ -53,22 +54,24 @@ second-allowed-requires c κs = search needs
 returns-7 : tie.Need-returns-7
 unfolding ladder
 returns-7 c =
-    simp
-    (ne-eqb _ _ (c .before .before .before .before .before .before .if1 .left),
-    above-zero _ (c .before .before .before .before .before .before .if1 .left),
-    above-zero _ (c .before .before .before .before .if5 .left),
-    le-leb _ _ (c .before .before .if6 .left),
-    sym (c .before .second-allowed .ensures) ∙ c .if7 .taken)
+    simp (
+      ne-eqb _ _ (c .before .before .before .before .before .before .if1 .left),
+      above-zero _ (c .before .before .before .before .before .before .if1 .left),
+      above-zero _ (c .before .before .before .before .if5 .left),
+      le-leb _ _ (c .before .before .if6 .left),
+      sym (c .before .second-allowed .ensures) ∙ c .if7 .taken,
+    )
 
 returns-8 : tie.Need-returns-8
 unfolding ladder
 returns-8 c =
-    simp
-    (ne-eqb _ _ (c .before .before .before .before .before .before .if1 .left),
-    above-zero _ (c .before .before .before .before .before .before .if1 .left),
-    above-zero _ (c .before .before .before .before .if5 .left),
-    le-leb _ _ (c .before .before .if6 .left),
-    sym (c .before .second-allowed .ensures) ∙ c .if7 .left)
+    simp (
+      ne-eqb _ _ (c .before .before .before .before .before .before .if1 .left),
+      above-zero _ (c .before .before .before .before .before .before .if1 .left),
+      above-zero _ (c .before .before .before .before .if5 .left),
+      le-leb _ _ (c .before .before .if6 .left),
+      sym (c .before .second-allowed .ensures) ∙ c .if7 .left,
+    )
 
 pub refusal-of-spec : {M : Type 1} → statement M
 refusal-of-spec =

@@ -26,20 +26,22 @@ returns-3 c =
 returns-4 : tie.Need-returns-4
 unfolding secondAllowed
 returns-4 c =
-    simp
-    (sym (c .before .before .before .before .considered .ensures) ∙ not-false _ (c .before .before .before .if1 .left),
-    ne-eqb _ _ (c .before .before .if2 .left),
-    eq-eqb _ _ (c .before .if4 .taken),
-    le-leb _ _ (c .if5 .taken))
+    simp (
+      sym (c .before .before .before .before .considered .ensures) ∙ not-false _ (c .before .before .before .if1 .left),
+      ne-eqb _ _ (c .before .before .if2 .left),
+      eq-eqb _ _ (c .before .if4 .taken),
+      le-leb _ _ (c .if5 .taken),
+    )
 
 returns-5 : tie.Need-returns-5
 unfolding secondAllowed
 returns-5 c =
-    simp
-    (sym (c .before .before .before .before .considered .ensures) ∙ not-false _ (c .before .before .before .if1 .left),
-    ne-eqb _ _ (c .before .before .if2 .left),
-    eq-eqb _ _ (c .before .if4 .taken),
-    lt-leb _ _ (c .if5 .left))
+    simp (
+      sym (c .before .before .before .before .considered .ensures) ∙ not-false _ (c .before .before .before .if1 .left),
+      ne-eqb _ _ (c .before .before .if2 .left),
+      eq-eqb _ _ (c .before .if4 .taken),
+      lt-leb _ _ (c .if5 .left),
+    )
 
 returns-6 : tie.Need-returns-6
 unfolding secondAllowed

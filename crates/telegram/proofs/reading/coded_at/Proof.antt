@@ -1,5 +1,4 @@
 -- `coded_at`: the words are those of `word`.
-use Rattle.telegram.specs.Telegrams.{codedAt}
 use borrow.Author.Needs.{needs}
 use Rattle.telegram.proofs.reading.coded_at.Statement.{statement}
 use Rattle.telegram.proofs.reading.coded_at.Tie as tie

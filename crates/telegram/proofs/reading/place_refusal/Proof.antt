@@ -1,11 +1,10 @@
+-- `place_refusal`: rows 12, 13 and 6 are `condition`'s, and row 14 stands below them.
 use mathlib.Core.Path.{sym, _∙_}
 use Rattle.kit.proofs.Cases.{above-zero, at-zero}
 use Rattle.telegram.proofs.Rows.{place-upper, place-lower}
 use borrow.Author.Needs.{needs}
 use Rattle.telegram.proofs.reading.place_refusal.Statement.{statement}
 use Rattle.telegram.proofs.reading.place_refusal.Tie as tie
-
--- `place_refusal`: rows 12, 13 and 6 are `condition`'s, and row 14 stands below them.
 
 coded-at-requires : tie.Need-coded-at-requires
 coded-at-requires c κs = search needs

@@ -1,6 +1,6 @@
-use Prim.Native.Nat.{ℕ}
+-- `places_refusal`: the loop leaves at the first place whose ladder answers.
+use Prim.Native.Nat.{ℕ, _-_, _≤_}
 use mathlib.Core.List.{List}
-use Prim.Native.Nat.{_-_, _≤_}
 use mathlib.Core.Path.{_≡_, sym, _∙_}
 use borrow.Author.Needs.{needs}
 use Rattle.kit.specs.Each.{each}
@@ -15,8 +15,6 @@ use Rattle.telegram.proofs.reading.places_refusal.Tie as tie
 
 abbrev judged : List ℕ → ℕ → ℕ
 judged bytes k = ladder 0 (placeRows bytes k)
-
--- `places_refusal`: the loop leaves at the first place whose ladder answers.
 
 abbrev Inv-loop : tie.InvT-loop
 Inv-loop bytes k₀ k = (k ≤ 4) × (ladder 0 (each (placeRows bytes) 0 4) ≡ first (judged bytes) k (4 - k))

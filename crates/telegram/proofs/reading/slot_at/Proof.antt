@@ -1,6 +1,4 @@
 -- `slot_at`: by what `coded_at` and `body_of` answered.
-use mathlib.Core.Path.{_∙_, ap}
-use Rattle.condition.specs.Slots.{slotIn}
 use borrow.Author.Needs.{needs}
 use Rattle.telegram.proofs.reading.slot_at.Statement.{statement}
 use Rattle.telegram.proofs.reading.slot_at.Tie as tie

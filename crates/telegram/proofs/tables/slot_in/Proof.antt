@@ -1,3 +1,4 @@
+-- `slot_in`: past the table's end a slot is empty.
 use Prim.Native.Nat.{_≤_}
 use mathlib.Core.Path.{sym}
 use native.Mathlib.Omega.{arith}
@@ -6,8 +7,6 @@ use Rattle.condition.specs.Slots.{emptySlot}
 use borrow.Author.Needs.{needs}
 use Rattle.telegram.proofs.tables.slot_in.Statement.{statement}
 use Rattle.telegram.proofs.tables.slot_in.Tie as tie
-
--- `slot_in`: past the table's end a slot is empty.
 
 mul-result : tie.Need-mul-result
 mul-result c = search needs

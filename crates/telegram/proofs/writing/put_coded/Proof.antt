@@ -23,7 +23,12 @@ same-length c = search needs
 returns : tie.Need-returns
 unfolding sixOf
 returns c =
-    put-then (c .before .before .before .before .before .before .before .before .before .before .before .before .before .before .put-byte .ensures) (put-then (c .before .before .before .before .before .before .before .before .before .before .put-byte2 .ensures) (put-then (c .before .before .before .before .before .before .put-word .ensures) (c .before .before .put-word2 .ensures)))
+    let second = c .before .before in
+    let first = second .before .before .before .before in
+    let kind = first .before .before .before .before in
+    let number = kind .before .before .before .before in
+    put-then (number .put-byte .ensures)
+    (put-then (kind .put-byte2 .ensures) (put-then (first .put-word .ensures) (second .put-word2 .ensures)))
 
 pub put-coded-spec : {M : Type 1} → statement M
 put-coded-spec =

@@ -49,9 +49,16 @@ same-length c = search needs
 returns : tie.Need-returns
 unfolding bytesOf each sixOf
 returns c =
-    put-whole (c .before .before .before .before .before .before .before .before .before .before .before .before .before .before .before .before .before .before .before .before .before .before .before .before .before .before .before .pre)
-    (put-then (put-as (ap wordBytes (sym (c .before .before .before .before .before .before .before .before .before .before .before .before .before .before .before .before .before .before .before .before .before .before .before .head-of .ensures))) (c .before .before .before .before .before .before .before .before .before .before .before .before .before .before .before .before .before .before .before .before .before .before .put-word .ensures))
-    (put-then (c .before .before .before .before .before .before .before .before .before .before .before .before .before .before .before .before .before .put-slot .ensures) (put-then (c .before .before .before .before .before .before .before .before .before .before .before .before .put-slot2 .ensures) (put-then (c .before .before .before .before .before .before .before .put-slot3 .ensures) (c .before .before .put-slot4 .ensures)))))
+    let fourth = c .before .before in
+    let third = fourth .before .before .before .before .before in
+    let second = third .before .before .before .before .before in
+    let first = second .before .before .before .before .before in
+    let head = first .before .before .before .before .before in
+    put-whole (head .before .before .before .before .before .pre)
+    (put-then (put-as (ap wordBytes (sym (head .before .head-of .ensures))) (head .put-word .ensures))
+    (put-then (first .put-slot .ensures)
+    (put-then (second .put-slot2 .ensures)
+    (put-then (third .put-slot3 .ensures) (fourth .put-slot4 .ensures)))))
 
 pub put-telegram-spec : {M : Type 1} → statement M
 put-telegram-spec =
