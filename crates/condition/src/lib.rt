@@ -17,6 +17,8 @@ pub use slots::slot_of;
 pub use steps::STEPS;
 pub use steps::gap;
 pub use verdicts::Verdict;
+pub use verdicts::above;
 pub use words::NO_VALUE;
 pub use words::second_allowed;
 pub use words::second_held;
+pub use words::word;

@@ -1,6 +1,14 @@
 // The words of a condition, and which second words its type allows.
 ghost use mathlib.Core.Path.{_≡_};
+ghost use Rattle.kit.specs.Bytes.{word};
 ghost use Rattle.condition.specs.Words.{isConsidered, secondAllowed, secondHeld};
+
+// A word of two bytes, high byte first.
+pub fn word(high: u8, low: u8) -> u16
+    ensures { λ r. ⌜ r ≡ word high low ⌝ }
+{
+    high as u16 * 256 + low as u16
+}
 
 // A distance with no value. 7FFFh and 8001h are ordinary distances.
 pub const NO_VALUE: u16 = 0x8000;
@@ -30,13 +38,13 @@ const NO_RESTRICTION: u16 = 1023;
 fn considered(kind: u8, first: u16) -> bool
     ensures { λ r. ⌜ r ≡ isConsidered kind first ⌝ }
 {
-    if first == NO_VALUE {
-        if kind == TRACTION {
-            return false;
-        }
-        return kind != CURRENT;
+    if first != NO_VALUE {
+        return true;
     }
-    true
+    if kind == TRACTION {
+        return false;
+    }
+    kind != CURRENT
 }
 
 // Whether the second word is allowed for the type (row 6).

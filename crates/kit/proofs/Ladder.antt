@@ -10,7 +10,7 @@ use mathlib.Core.List.{List, [], _∷_, _++_}
 use lib.Dec.{eqb}
 use native.Mathlib.Omega.{arith}
 use borrow.Author.Tests.{eqb-true, eqb-false}
-use Rattle.kit.specs.Ladder.{ladder, Decides, Silent, Numbered}
+use Rattle.kit.specs.Ladder.{ladder, Decides, Silent, above, Numbered}
 use Rattle.kit.specs.Each.{each}
 use Rattle.kit.specs.Loops.{first, scan}
 use Rattle.kit.proofs.Cases.{on, given}
@@ -104,13 +104,19 @@ module _ (rows : List (Bool × ℕ)) (numbered : Numbered rows) where
   pub lower-answers : (other : ℕ) → ladder 0 rows ≡ 0 → ladder other rows ≡ other
   lower-answers other e = ladder-silent other rows (passed-exactly .0 e)
 
+pub above-append : (upper lower : List (Bool × ℕ)) → Numbered upper → ladder 0 (upper ++ lower) ≡ above (ladder 0 upper) (ladder 0 lower)
+unfolding above
+above-append upper lower numbered =
+    ladder-append 0 upper lower
+    ∙ on (eqb (ladder 0 upper) 0)
+    (λ e. rw e (lower-answers upper numbered (ladder 0 lower) (eqb-true _ 0 e)))
+    (λ e. rw e (upper-answers upper numbered (ladder 0 lower) (eqb-false _ 0 e)))
+
 -- the ladder of several things answers as the first of them that has a row that holds: "the first bad slot, within it .."
 pub ladder-each : (rows : ℕ → List (Bool × ℕ)) → ((i : ℕ) → Numbered (rows i)) → (k n : ℕ)
     → ladder 0 (each rows k n) ≡ first (λ i. ladder 0 (rows i)) k n
-unfolding each ladder scan
+unfolding each ladder scan above
 ladder-each rows a k zero = refl
 ladder-each rows a k (suc n) =
-    ladder-append 0 (rows k) (each rows (k + 1) n)
-    ∙ on (eqb (ladder 0 (rows k)) 0)
-    (λ e. rw (e, lower-answers (rows k) (a k) (ladder 0 (each rows (k + 1) n)) (eqb-true _ 0 e)) (ladder-each rows a (k + 1) n))
-    (λ e. rw (e, upper-answers (rows k) (a k) (ladder 0 (each rows (k + 1) n)) (eqb-false _ 0 e)) refl)
+    above-append (rows k) (each rows (k + 1) n) (a k)
+    ∙ on (eqb (ladder 0 (rows k)) 0) (λ e. rw e (ladder-each rows a (k + 1) n)) (λ e. rw e refl)

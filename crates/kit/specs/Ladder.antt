@@ -7,6 +7,7 @@ use mathlib.Core.Path.{_≡_}
 use mathlib.Core.Logic.{_⊎_}
 use mathlib.Core.Bool.{Bool, true, false, cond}
 use mathlib.Core.List.{List, [], _∷_}
+use lib.Dec.{eqb}
 
 module _ {A : Type 0} where
   -- the answer of the first row that holds, or `other` where none does
@@ -23,6 +24,10 @@ module _ {A : Type 0} where
   abbrev pub Silent : List (Bool × A) → Type 0
   Silent [] = Unit
   Silent ((holds, own) ∷ below) = (holds ≡ false) × Silent below
+
+-- the answer of one ladder of numbers above another: the upper one's, or where that is 0 the lower one's
+unfoldable pub above : ℕ → ℕ → ℕ
+above upper lower = cond (eqb upper 0) lower upper
 
 -- a ladder whose answers are numbers from 1 on, so that 0 is free to say that no row holds
 abbrev pub Numbered : List (Bool × ℕ) → Type 0

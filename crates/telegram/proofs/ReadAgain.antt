@@ -16,11 +16,11 @@ use Rattle.condition.specs.declared.slots.Body.{Body}
 use Rattle.condition.specs.declared.slots.Body.the-variants.{Empty, Area, Traction, Current}
 use Rattle.condition.specs.declared.verdicts.Verdict.the-variants.{Accepted}
 use Rattle.condition.proofs.Coding.{coded-silent, slot-in-back}
-use Rattle.telegram.specs.Telegrams.{place, codedAt, takenBefore, placeRows, readRows, slotAt, telegramOf, readOf, bytesOf}
+use Rattle.telegram.specs.Telegrams.{place, codedAt, takenBefore, takenRow, placeRows, readRows, slotAt, telegramOf, readOf, bytesOf}
 use Rattle.telegram.specs.Sendable.{slotOn, Sendable}
-use Rattle.telegram.specs.declared.reading.Telegram.{Telegram}
+use Rattle.telegram.specs.declared.Telegram.{Telegram}
 use Rattle.telegram.proofs.Four.{four-list}
-use Rattle.telegram.proofs.Rows.{again, read-accepted}
+use Rattle.telegram.proofs.Rows.{read-accepted}
 use Rattle.telegram.proofs.Wire.{length-bytes, coded-on, packet-on, step-on}
 
 -- the number of a held slot is the one that is written
@@ -53,7 +53,7 @@ module _ (t : Telegram) (s : Sendable t) where
 
   places-silent : (k : ℕ) → k < 4 → Silent (placeRows (bytesOf t) k)
   places-silent k p =
-      silent-join (slotRows (codedAt (bytesOf t) k)) (again (bytesOf t) k (codedAt (bytesOf t) k))
+      silent-join (slotRows (codedAt (bytesOf t) k)) (takenRow (bytesOf t) k (codedAt (bytesOf t) k .number))
       (subst (λ c. Silent (slotRows c)) (sym (coded-on t k p)) (coded-silent (slotOn t k) (s .held k)))
       (untaken k p, tt)
 

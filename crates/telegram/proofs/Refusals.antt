@@ -8,7 +8,7 @@ use Rattle.kit.specs.Ladder.{Decides, Silent}
 use Rattle.condition.proofs.Answers.{refused-when, accepted-when}
 use Rattle.condition.specs.declared.verdicts.Verdict.the-variants.{Accepted, Refused}
 use Rattle.telegram.specs.Telegrams.{readRows, readOf, writeRows, writeVerdict}
-use Rattle.telegram.specs.declared.reading.Telegram.{Telegram}
+use Rattle.telegram.specs.declared.Telegram.{Telegram}
 use Rattle.telegram.proofs.Rows.{read-numbered, write-numbered}
 
 module _ (bytes : List ℕ) where

@@ -1,29 +1,23 @@
 -- The ladders of a telegram, as the code climbs them.
 use Prim.Native.Nat.{ℕ}
 use mathlib.Core.Path.{_≡_, refl, sym, _∙_, subst}
-use mathlib.Core.Bool.{Bool, cond, _&&_}
-use mathlib.Core.List.{List, [], _∷_}
-use lib.Dec.{ltb}
+use mathlib.Core.List.{List}
 use lib.ListN.{length}
 use native.Mathlib.Omega.{arith}
 use borrow.Author.Tests.{eqb-true, eq-eqb, ne-eqb, not-false}
-use Rattle.kit.specs.Ladder.{ladder, Numbered}
-use Rattle.kit.proofs.Ladder.{ladder-append, upper-answers, lower-answers, numbered-append, numbered-each, passed-exactly}
+use Rattle.kit.specs.Ladder.{ladder, above, Numbered}
+use Rattle.kit.proofs.Ladder.{above-append, numbered-append, numbered-each, passed-exactly}
 use Rattle.condition.specs.Slots.{slotRows}
 use Rattle.condition.specs.declared.slots.Coded.{Coded}
 use Rattle.condition.proofs.Coding.{slot-numbered}
 use Rattle.condition.specs.declared.verdicts.Verdict.the-variants.{Accepted, Refused}
 use Rattle.condition.proofs.Answers.{verdict-accepted, verdict-refused}
-use Rattle.telegram.specs.Telegrams.{codedAt, takenBefore, placeRows, readRows, telegramOf, blank, readOf, bytesOf, writeRows, writeVerdict, written}
-use Rattle.telegram.specs.declared.reading.Telegram.{Telegram}
-
--- row 14 of a place, below its other rows
-abbrev pub again : List ℕ → ℕ → Coded → List (Bool × ℕ)
-again bytes k coded = (ltb 0 (coded .number) && takenBefore bytes k (coded .number), 14) ∷ []
+use Rattle.telegram.specs.Telegrams.{codedAt, takenRow, placeRows, readRows, telegramOf, blank, readOf, bytesOf, writeRows, writeVerdict, written}
+use Rattle.telegram.specs.declared.Telegram.{Telegram}
 
 -- every answer of these ladders is a number of document 01, and so not 0
 pub place-numbered : (bytes : List ℕ) (k : ℕ) → Numbered (placeRows bytes k)
-place-numbered bytes k = numbered-append (slotRows (codedAt bytes k)) (again bytes k (codedAt bytes k)) (slot-numbered (codedAt bytes k)) (omega arith)
+place-numbered bytes k = numbered-append (slotRows (codedAt bytes k)) (takenRow bytes k (codedAt bytes k .number)) (slot-numbered (codedAt bytes k)) (omega arith)
 
 pub read-numbered : (bytes : List ℕ) → Numbered (readRows bytes)
 unfolding readRows
@@ -32,16 +26,12 @@ read-numbered bytes = (omega arith, (omega arith, numbered-each (placeRows bytes
 pub write-numbered : (packet room : ℕ) → Numbered (writeRows packet room)
 write-numbered packet room = omega arith
 
-module _ (bytes : List ℕ) (k : ℕ) (coded : Coded) (same : coded ≡ codedAt bytes k) where
-  joined : ladder 0 (placeRows bytes k) ≡ ladder (ladder 0 (again bytes k coded)) (slotRows coded)
-  joined = subst (λ x. ladder 0 (placeRows bytes k) ≡ ladder (ladder 0 (again bytes k x)) (slotRows x)) (sym same) (ladder-append 0 (slotRows (codedAt bytes k)) (again bytes k (codedAt bytes k)))
-
-  pub place-upper : (ladder 0 (slotRows coded) ≡ 0 → ⊥) → ladder 0 (placeRows bytes k) ≡ ladder 0 (slotRows coded)
-  place-upper n = joined ∙ upper-answers (slotRows coded) (slot-numbered coded) (ladder 0 (again bytes k coded)) n
-
-  pub place-lower : ladder 0 (slotRows coded) ≡ 0 → ladder 0 (placeRows bytes k) ≡ cond (ltb 0 (coded .number) && takenBefore bytes k (coded .number)) 14 0
-  unfolding ladder
-  place-lower e = joined ∙ lower-answers (slotRows coded) (slot-numbered coded) (ladder 0 (again bytes k coded)) e
+-- a place's rows: those of the slot by itself, above the one that looks at earlier slots
+pub place-above : (bytes : List ℕ) (k : ℕ) (coded : Coded) → coded ≡ codedAt bytes k
+    → ladder 0 (placeRows bytes k) ≡ above (ladder 0 (slotRows coded)) (ladder 0 (takenRow bytes k (coded .number)))
+place-above bytes k coded same =
+    subst (λ c. ladder 0 (placeRows bytes k) ≡ above (ladder 0 (slotRows c)) (ladder 0 (takenRow bytes k (c .number)))) (sym same)
+    (above-append (slotRows (codedAt bytes k)) (takenRow bytes k (codedAt bytes k .number)) (slot-numbered (codedAt bytes k)))
 
 -- the two ways of a reading: refused, with the blank telegram beside it, or accepted
 module _ (bytes : List ℕ) (number : ℕ) (same : number ≡ ladder 0 (readRows bytes)) where

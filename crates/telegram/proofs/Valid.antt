@@ -14,10 +14,10 @@ use Rattle.kit.proofs.Ladder.{passed-exactly, silent-append, silent-each}
 use Rattle.kit.proofs.Loops.{any-none}
 use Rattle.condition.specs.Slots.{emptySlot, slotRows, Held}
 use Rattle.condition.proofs.Coding.{read-held}
-use Rattle.telegram.specs.Telegrams.{packetIn, place, codedAt, takenBefore, placeRows, readRows, slotAt, telegramOf, readOf}
+use Rattle.telegram.specs.Telegrams.{packetIn, place, codedAt, takenBefore, takenRow, placeRows, readRows, slotAt, telegramOf, readOf}
 use Rattle.telegram.specs.Sendable.{slotOn, Sendable}
 use Rattle.telegram.proofs.Four.{four-all}
-use Rattle.telegram.proofs.Rows.{again, read-numbered, read-refused, read-accepted}
+use Rattle.telegram.proofs.Rows.{read-numbered, read-refused, read-accepted}
 
 -- the slot of place k of what 26 bytes mean
 pub slot-meant : (bytes : List ℕ) (k : ℕ) → k < 4 → slotOn (telegramOf bytes) k ≡ slotAt bytes k
@@ -40,10 +40,10 @@ module _ (bytes : List ℕ) (s : Silent (readRows bytes)) where
   place-read k p = silent-each (placeRows bytes) 0 4 (s .1 .1) k (omega arith) (omega arith)
 
   pub slot-read : (k : ℕ) → k < 4 → Silent (slotRows (codedAt bytes k))
-  slot-read k p = silent-append (slotRows (codedAt bytes k)) (again bytes k (codedAt bytes k)) (place-read k p) .0
+  slot-read k p = silent-append (slotRows (codedAt bytes k)) (takenRow bytes k (codedAt bytes k .number)) (place-read k p) .0
 
   untaken-read : (k : ℕ) → k < 4 → ltb 0 (codedAt bytes k .number) && takenBefore bytes k (codedAt bytes k .number) ≡ false
-  untaken-read k p = silent-append (slotRows (codedAt bytes k)) (again bytes k (codedAt bytes k)) (place-read k p) .1 .0
+  untaken-read k p = silent-append (slotRows (codedAt bytes k)) (takenRow bytes k (codedAt bytes k .number)) (place-read k p) .1 .0
 
   held-read : (k : ℕ) → Held (slotOn (telegramOf bytes) k)
   unfolding telegramOf

@@ -14,7 +14,7 @@ use Rattle.condition.specs.declared.slots.Coded.{Coded}
 use Rattle.condition.specs.declared.slots.Slot.{Slot}
 use Rattle.telegram.specs.Telegrams.{packetIn, stepIn, place, codedAt, headOf, sixAt, bytesOf}
 use Rattle.telegram.specs.Sendable.{slotOn}
-use Rattle.telegram.specs.declared.reading.Telegram.{Telegram}
+use Rattle.telegram.specs.declared.Telegram.{Telegram}
 
 six-size : (slots : List Slot) (k : ℕ) → length (sixAt slots k) ≡ 6
 unfolding sixOf

@@ -10,7 +10,7 @@ use Rattle.condition.specs.Steps.{steps}
 use Rattle.condition.specs.Words.{isConsidered}
 use Rattle.condition.specs.declared.slots.Slot.{Slot}
 use Rattle.telegram.specs.Telegrams.{codedAt}
-use Rattle.telegram.specs.declared.reading.Telegram.{Telegram}
+use Rattle.telegram.specs.declared.Telegram.{Telegram}
 
 -- the slot of place k
 abbrev pub slotOn : Telegram → ℕ → Slot

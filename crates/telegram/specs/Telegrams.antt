@@ -14,8 +14,8 @@ use Rattle.condition.specs.Verdicts.{verdictOf}
 use Rattle.condition.specs.declared.slots.Coded.{Coded}
 use Rattle.condition.specs.declared.slots.Slot.{Slot}
 use Rattle.condition.specs.declared.verdicts.Verdict.{Verdict}
-use Rattle.telegram.specs.declared.reading.Reading.{Reading}
-use Rattle.telegram.specs.declared.reading.Telegram.{Telegram}
+use Rattle.telegram.specs.declared.Reading.{Reading}
+use Rattle.telegram.specs.declared.Telegram.{Telegram}
 
 -- ---- the layout
 
@@ -45,12 +45,13 @@ codedAt bytes k =
 unfoldable pub takenBefore : List ℕ → ℕ → ℕ → Bool
 takenBefore bytes k number = any (λ j. eqb (getD bytes (place j) 0) number) 0 k
 
--- R-20: of one place 12, 13, 6, and then 14: slot number above 0, already in an earlier slot of this telegram
+-- R-14: slot number above 0, already in an earlier slot of this telegram
+abbrev pub takenRow : List ℕ → ℕ → ℕ → List (Bool × ℕ)
+takenRow bytes k number = (ltb 0 number && takenBefore bytes k number, 14) ∷ []
+
+-- R-20: of one place 12, 13, 6, and then 14
 abbrev pub placeRows : List ℕ → ℕ → List (Bool × ℕ)
-placeRows bytes k =
-    slotRows (codedAt bytes k)
-    ++ (ltb 0 (codedAt bytes k .number) && takenBefore bytes k (codedAt bytes k .number), 14)
-    ∷ []
+placeRows bytes k = slotRows (codedAt bytes k) ++ takenRow bytes k (codedAt bytes k .number)
 
 -- R-20: 10 not 26 bytes, 11 packet number 0 to 2, then the first bad slot
 unfoldable pub readRows : List ℕ → List (Bool × ℕ)

@@ -1,0 +1,94 @@
+// Writing a telegram into a buffer of any length: refused 9, then 10, with no byte changed, or all 26 bytes.
+use condition::Coded;
+use condition::Slot;
+use condition::Verdict;
+use telegram::Telegram;
+ghost use mathlib.Core.Path.{_≡_};
+ghost use mathlib.Core.List.{[], _∷_};
+ghost use Prim.Native.Nat.{_+_, _<_, _≤_};
+ghost use lib.ListN.{length};
+ghost use Rattle.kit.specs.Bytes.{wordBytes};
+ghost use Rattle.kit.specs.Ladder.{ladder};
+ghost use Rattle.kit.specs.Put.{Put};
+ghost use Rattle.condition.specs.Slots.{codedOf, sixOf};
+ghost use Rattle.telegram.specs.Telegrams.{headOf, bytesOf, writeRows, writeVerdict, written};
+
+fn put_byte(buffer: &mut [u8], at: usize, byte: u8) -> usize
+    requires { ⌜ at < length (now buffer) ⌝ }
+    ensures { λ r. ⌜ Put (now (buffer .entry)) at (byte ∷ []) (now (buffer .exit)) r ⌝ }
+{
+    buffer[at] = byte;
+    at + 1
+}
+
+fn put_word(buffer: &mut [u8], at: usize, word: u16) -> usize
+    requires { ⌜ at + 2 ≤ length (now buffer) ⌝ }
+    ensures { λ r. ⌜ Put (now (buffer .entry)) at (wordBytes word) (now (buffer .exit)) r ⌝ }
+{
+    let next = put_byte(buffer, at, (word / 256) as u8);
+    put_byte(buffer, next, (word % 256) as u8)
+}
+
+fn put_coded(buffer: &mut [u8], at: usize, coded: Coded) -> usize
+    requires { ⌜ at + 6 ≤ length (now buffer) ⌝ }
+    ensures { λ r. ⌜ Put (now (buffer .entry)) at (sixOf coded) (now (buffer .exit)) r ⌝ }
+{
+    let second = put_byte(buffer, at, coded.number);
+    let third = put_byte(buffer, second, coded.kind);
+    let fifth = put_word(buffer, third, coded.first);
+    put_word(buffer, fifth, coded.second)
+}
+
+fn put_slot(buffer: &mut [u8], at: usize, slot: Slot) -> usize
+    requires { ⌜ at + 6 ≤ length (now buffer) ⌝ }
+    ensures { λ r. ⌜ Put (now (buffer .entry)) at (sixOf (codedOf slot)) (now (buffer .exit)) r ⌝ }
+{
+    let coded = condition::coded_of(slot);
+    put_coded(buffer, at, coded)
+}
+
+// Packet number in the top three bits, step number in the low thirteen.
+fn head_of(packet: u8, step: u16) -> u16
+    ensures { λ r. ⌜ r ≡ headOf packet step ⌝ }
+{
+    (packet % 8) as u16 * 8192 + step % 8192
+}
+
+fn put_telegram(buffer: &mut [u8], telegram: Telegram)
+    requires { ⌜ length (now buffer) ≡ 26 ⌝ }
+    ensures { λ r. ⌜ now (buffer .exit) ≡ bytesOf telegram ⌝ }
+{
+    let slots = telegram.slots;
+    let first = put_word(buffer, 0, head_of(telegram.packet, telegram.step));
+    let second = put_slot(buffer, first, slots[0]);
+    let third = put_slot(buffer, second, slots[1]);
+    let fourth = put_slot(buffer, third, slots[2]);
+    put_slot(buffer, fourth, slots[3]);
+}
+
+// The refusal of a packet number and a buffer's length, or 0.
+fn refusal_of(packet: u8, length: usize) -> u8
+    ensures { λ r. ⌜ r ≡ ladder 0 (writeRows packet length) ⌝ }
+{
+    if packet < 3 {
+        return 9;
+    }
+    if 7 < packet {
+        return 9;
+    }
+    if length != 26 {
+        return 10;
+    }
+    0
+}
+
+pub fn write(telegram: Telegram, buffer: &mut [u8]) -> Verdict
+    ensures { λ r. ⌜ (r ≡ writeVerdict telegram (now (buffer .entry))) × (now (buffer .exit) ≡ written telegram (now (buffer .entry))) ⌝ }
+{
+    let refusal = refusal_of(telegram.packet, buffer.len());
+    if refusal != 0 {
+        return Verdict::Refused(refusal);
+    }
+    put_telegram(buffer, telegram);
+    Verdict::Accepted
+}
