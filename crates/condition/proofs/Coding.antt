@@ -10,7 +10,8 @@ use borrow.Author.Tests.{eqb-true, eqb-false, ltb-true, leb-true, ne-eqb, lt-ltb
 use Rattle.kit.specs.Ladder.{ladder, Decides, Silent, Numbered}
 use Rattle.kit.proofs.Cases.{on, given, and-both, and-second, above-zero}
 use Rattle.kit.proofs.Ladder.{ladder-silent}
-use Rattle.condition.specs.Words.{noValue, isType, isConsidered, secondAllowed, secondHeld}
+use Rattle.condition.specs.Distances.{noValue}
+use Rattle.condition.specs.Words.{isType, isConsidered, secondAllowed, secondHeld}
 use Rattle.condition.specs.Slots.{bodyOf, slotRows, slotIn, slotOf, coding, codedOf, settled, HeldBody, Held}
 use Rattle.condition.specs.declared.slots.Body.{Body}
 use Rattle.condition.specs.declared.slots.Body.the-variants.{Empty, Area, Traction, Current}

@@ -1,3 +1,4 @@
 pub mod Answers
 pub mod Coding
+pub mod Metres
 pub mod Round

@@ -1,3 +1,4 @@
+pub mod Distances
 pub mod Slots
 pub mod Steps
 pub mod Verdicts

@@ -1,11 +1,9 @@
--- The words of a condition: document 01, "Conditions".
+-- The types of conditions and their second words: document 01, "Conditions", its table and the paragraph on words that are not
+-- considered.
 use Prim.Native.Nat.{ℕ, _%_}
 use mathlib.Core.Bool.{Bool, true, cond, not, _&&_, _||_}
 use lib.Dec.{eqb, ltb, leb}
-
--- K-07: the distance that means no value
-abbrev pub noValue : ℕ
-noValue = 0x8000
+use Rattle.condition.specs.Distances.{noValue}
 
 -- K-02: 1 powerless, pantograph lowered; 2 air tightness; 3 powerless, main switch off; 4 change of traction system; 5 change of
 -- allowed current; 6 to 9 brake inhibition: regenerative, magnetic shoe, eddy current service, eddy current emergency

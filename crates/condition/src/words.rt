@@ -2,6 +2,7 @@
 ghost use mathlib.Core.Path.{_≡_};
 ghost use Rattle.kit.specs.Bytes.{word};
 ghost use Rattle.condition.specs.Words.{isConsidered, secondAllowed, secondHeld};
+use crate::distances::NO_VALUE;
 
 // A word of two bytes, high byte first.
 pub fn word(high: u8, low: u8) -> u16
@@ -9,9 +10,6 @@ pub fn word(high: u8, low: u8) -> u16
 {
     high as u16 * 256 + low as u16
 }
-
-// A distance with no value. 7FFFh and 8001h are ordinary distances.
-pub const NO_VALUE: u16 = 0x8000;
 
 // The types whose second word is no distance; the highest type.
 pub const TRACTION: u8 = 4;

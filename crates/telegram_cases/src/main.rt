@@ -14,6 +14,7 @@ fn main() {
     current_words();
     current_changes();
     distances();
+    distance_words();
     gaps();
     lengths();
     packets();
@@ -39,6 +40,14 @@ fn slot_case(kind: u8, first: u16, second: u16) {
     show::coded(handed);
     show::verdict(verdict);
     show::coded(condition::coded_of(slot));
+    show::text(b"\n");
+}
+
+fn distance_case(word: u16) {
+    show::text(b"distance");
+    show::word(word);
+    show::text(b":");
+    show::distance(condition::distance_of(word));
     show::text(b"\n");
 }
 
@@ -193,6 +202,16 @@ fn distances() {
     slot_case(7, 0x8000, 0);
     slot_case(8, 0, 0x8000);
     slot_case(9, 0xFFFF, 1);
+}
+
+// The ends of the range, no value between them, and the words about zero.
+fn distance_words() {
+    distance_case(0x7FFF);
+    distance_case(0x8000);
+    distance_case(0x8001);
+    distance_case(0x0000);
+    distance_case(0x0001);
+    distance_case(0xFFFF);
 }
 
 fn gaps() {

@@ -1,5 +1,6 @@
 // Pieces of text on standard output.
 use condition::Coded;
+use condition::Distance;
 use condition::Verdict;
 use libc::STDOUT_FILENO;
 
@@ -50,4 +51,16 @@ pub fn coded(c: Coded) {
     number(c.kind as u64);
     word(c.first);
     word(c.second);
+}
+
+// Metres, with a minus sign where they are below zero, or `-` for no value; after a blank.
+pub fn distance(d: Distance) {
+    match d {
+        Distance::Missing => text(b" -"),
+        Distance::Metres(m) => number(m as u64),
+        Distance::Below(m) => {
+            text(b" -");
+            io::print_decimal(STDOUT_FILENO, m as u64);
+        }
+    }
 }
