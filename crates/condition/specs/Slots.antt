@@ -27,7 +27,13 @@ bodyOf kind first second =
     (cond (eqb kind 5) (Current first (secondHeld kind first second))
     (cond (isType kind) (Area kind first second) Empty))
 
--- R-12, R-13, R-06: slot number 0 with another byte not zero; slot number above 0, type not 1 to 9; second word not allowed
+-- the slot that number, type and two words mean
+abbrev pub slotIn : Coded → Slot
+slotIn c = record { number = c .number; body = bodyOf (c .kind) (c .first) (c .second) }
+
+-- R-12: slot number 0 with another byte not zero
+-- R-13: slot number above 0, type not 1 to 9
+-- R-06: second word not allowed for the type
 abbrev pub slotRows : Coded → List (Bool × ℕ)
 slotRows c =
     (eqb (c .number) 0 && not (eqb (c .kind) 0 && eqb (c .first) 0 && eqb (c .second) 0), 12)
@@ -35,19 +41,14 @@ slotRows c =
     ∷ (not (secondAllowed (c .kind) (c .first) (c .second)), 6)
     ∷ []
 
--- the slot that number, type and two words mean
-abbrev pub slotIn : Coded → Slot
-slotIn c = record { number = c .number; body = bodyOf (c .kind) (c .first) (c .second) }
+abbrev pub slotRefusal : Coded → ℕ
+slotRefusal c = ladder 0 (slotRows c)
 
--- reading one: refused by the first row that holds, with the empty slot beside it, or that slot
+-- reading a slot: its refusal, with the empty slot beside it, or what it means
 unfoldable pub slotOf : Coded → SlotReading
-slotOf c =
-    record {
-      verdict = verdictOf (ladder 0 (slotRows c));
-      slot = cond (eqb (ladder 0 (slotRows c)) 0) (slotIn c) emptySlot;
-    }
+slotOf c = record { verdict = verdictOf (slotRefusal c); slot = cond (eqb (slotRefusal c) 0) (slotIn c) emptySlot }
 
--- and back; T-05: an empty slot is all zero
+-- a slot as it is written; T-05: an empty slot is all zero
 abbrev pub coding : ℕ → Body → Coded
 coding number Empty = record { number = 0; kind = 0; first = 0; second = 0 }
 coding number (Area kind entry exit) = record { number = number; kind = kind; first = entry; second = exit }

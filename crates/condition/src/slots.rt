@@ -1,7 +1,6 @@
 // A slot, and the number, type and two words that code it.
 ghost use mathlib.Core.Path.{_≡_};
-ghost use Rattle.kit.specs.Ladder.{ladder};
-ghost use Rattle.condition.specs.Slots.{bodyOf, slotRows, slotOf, codedOf};
+ghost use Rattle.condition.specs.Slots.{bodyOf, slotRefusal, slotOf, codedOf};
 use crate::verdicts::Verdict;
 use crate::words::COUNTRIES;
 use crate::words::CURRENT;
@@ -82,7 +81,7 @@ pub fn body_of(kind: u8, first: u16, second: u16) -> Body
 
 // The first of the rows 12, 13 and 6 that holds, or 0.
 pub fn refusal_of(coded: Coded) -> u8
-    ensures { λ r. ⌜ r ≡ ladder 0 (slotRows coded) ⌝ }
+    ensures { λ r. ⌜ r ≡ slotRefusal coded ⌝ }
 {
     if coded.number == 0 {
         if coded.kind != 0 {

@@ -84,8 +84,8 @@ unfolding telegramOf
 read-sendable bytes fits s =
     record {
       packet-from = packet-read bytes s;
-      packet-to = omega (arith, fits 0);
-      step-below = omega (arith, fits 0, fits 1);
+      packet-to = omega (arith, fits 0, fits 1);
+      step-below = omega arith;
       four = refl;
       held = held-read bytes s;
       distinct = distinct-read bytes s;

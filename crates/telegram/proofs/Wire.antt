@@ -12,7 +12,7 @@ use Rattle.condition.specs.Slots.{codedOf, sixOf}
 use Rattle.condition.specs.Steps.{steps}
 use Rattle.condition.specs.declared.slots.Coded.{Coded}
 use Rattle.condition.specs.declared.slots.Slot.{Slot}
-use Rattle.telegram.specs.Telegrams.{packetIn, stepIn, place, codedAt, headOf, sixAt, bytesOf}
+use Rattle.telegram.specs.Telegrams.{packetIn, stepIn, place, codedAt, sixAt, bytesOf}
 use Rattle.telegram.specs.Sendable.{slotOn}
 use Rattle.telegram.specs.declared.Telegram.{Telegram}
 
@@ -48,9 +48,9 @@ module _ (t : Telegram) where
       λ i. record { number = b0 i; kind = b1 i; first = w i; second = v i }
 
   pub packet-on : t .packet ≤ 7 → packetIn (bytesOf t) ≡ t .packet
-  unfolding bytesOf headOf
+  unfolding bytesOf
   packet-on p = omega arith
 
   pub step-on : t .step < steps → stepIn (bytesOf t) ≡ t .step
-  unfolding bytesOf headOf
+  unfolding bytesOf
   step-on p = omega arith

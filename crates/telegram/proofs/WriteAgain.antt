@@ -16,7 +16,7 @@ use Rattle.kit.proofs.Cases.{on}
 use Rattle.condition.specs.Slots.{codedOf, settled, sixOf}
 use Rattle.condition.specs.Words.{isConsidered, secondHeld}
 use Rattle.condition.proofs.Coding.{coded-back}
-use Rattle.telegram.specs.Telegrams.{place, codedAt, readRows, headOf, sixAt, telegramOf, bytesOf}
+use Rattle.telegram.specs.Telegrams.{place, codedAt, readRows, sixAt, telegramOf, bytesOf}
 use Rattle.telegram.specs.Sendable.{isIdle}
 use Rattle.telegram.proofs.Valid.{slot-meant, slot-read}
 use Rattle.telegram.proofs.Wire.{byte-at}
@@ -48,7 +48,7 @@ module _ (bytes : List ℕ) (fits : Bytes bytes) where
     six-again k p = ap (λ x. sixOf (codedOf x)) (slot-meant bytes k p) ∙ ap sixOf (coded-back (codedAt bytes k) (slot-read bytes s k p))
 
     head-again : (i : ℕ) → i < 2 → getD (bytesOf (telegramOf bytes)) i 0 ≡ getD bytes i 0
-    unfolding bytesOf telegramOf headOf
+    unfolding bytesOf telegramOf
     head-again zero p = omega (arith, fits 0, fits 1)
     head-again (suc zero) p = omega (arith, fits 0, fits 1)
     head-again (suc (suc i)) p = absurd (omega arith)

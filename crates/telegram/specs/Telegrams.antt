@@ -19,12 +19,18 @@ use Rattle.telegram.specs.declared.Telegram.{Telegram}
 
 -- ---- the layout
 
--- T-02: packet number in the top three bits of bytes 0 and 1, step number in the low thirteen
+-- T-02: bytes 0 and 1: packet number in the top three bits, step number in the low thirteen
+abbrev pub headIn : List ℕ → ℕ
+headIn bytes = word (getD bytes 0 0) (getD bytes 1 0)
+
 abbrev pub packetIn : List ℕ → ℕ
-packetIn bytes = getD bytes 0 0 / 32
+packetIn bytes = headIn bytes / steps
 
 abbrev pub stepIn : List ℕ → ℕ
-stepIn bytes = word (getD bytes 0 0 % 32) (getD bytes 1 0)
+stepIn bytes = headIn bytes % steps
+
+abbrev pub headOf : ℕ → ℕ → ℕ
+headOf packet step = packet % 8 * steps + step % steps
 
 -- T-03: then four slots of six bytes: number, type, first word, second word
 abbrev pub place : ℕ → ℕ
@@ -53,14 +59,19 @@ takenRow bytes k number = (ltb 0 number && takenBefore bytes k number, 14) ∷ [
 abbrev pub placeRows : List ℕ → ℕ → List (Bool × ℕ)
 placeRows bytes k = slotRows (codedAt bytes k) ++ takenRow bytes k (codedAt bytes k .number)
 
--- R-20: 10 not 26 bytes, 11 packet number 0 to 2, then the first bad slot
+-- R-10: not 26 bytes
+-- R-11: packet number 0 to 2
+-- R-20: then the first bad slot
 unfoldable pub readRows : List ℕ → List (Bool × ℕ)
 readRows bytes = (not (eqb (length bytes) 26), 10) ∷ (ltb (packetIn bytes) 3, 11) ∷ each (placeRows bytes) 0 4
 
+abbrev pub readRefusal : List ℕ → ℕ
+readRefusal bytes = ladder 0 (readRows bytes)
+
+-- T-02, T-03: what 26 bytes mean
 abbrev pub slotAt : List ℕ → ℕ → Slot
 slotAt bytes k = slotIn (codedAt bytes k)
 
--- T-02, T-03: what 26 bytes mean
 unfoldable pub telegramOf : List ℕ → Telegram
 telegramOf bytes =
     record {
@@ -74,17 +85,9 @@ abbrev pub blank : Telegram
 blank = record { packet = 0; step = 0; slots = emptySlot ∷ emptySlot ∷ emptySlot ∷ emptySlot ∷ [] }
 
 unfoldable pub readOf : List ℕ → Reading
-readOf bytes =
-    record {
-      verdict = verdictOf (ladder 0 (readRows bytes));
-      telegram = cond (eqb (ladder 0 (readRows bytes)) 0) (telegramOf bytes) blank;
-    }
+readOf bytes = record { verdict = verdictOf (readRefusal bytes); telegram = cond (eqb (readRefusal bytes) 0) (telegramOf bytes) blank }
 
 -- ---- writing
-
--- T-02: the first two bytes, as a word; the packet's three bits, the step's thirteen
-unfoldable pub headOf : ℕ → ℕ → ℕ
-headOf packet step = packet % 8 * steps + step % steps
 
 -- T-03: the six bytes of place k
 abbrev pub sixAt : List Slot → ℕ → List ℕ
@@ -94,13 +97,17 @@ sixAt slots k = sixOf (codedOf (getD slots k emptySlot))
 unfoldable pub bytesOf : Telegram → List ℕ
 bytesOf t = wordBytes (headOf (t .packet) (t .step)) ++ each (sixAt (t .slots)) 0 4
 
--- R-19: 9 the packet is not 3 to 7, 10 the buffer is not 26 bytes
+-- R-09: packet asked for is not 3 to 7
+-- R-10: buffer not 26 bytes
 abbrev pub writeRows : ℕ → ℕ → List (Bool × ℕ)
 writeRows packet room = (not (leb 3 packet && leb packet 7), 9) ∷ (not (eqb room 26), 10) ∷ []
 
+abbrev pub writeRefusal : ℕ → ℕ → ℕ
+writeRefusal packet room = ladder 0 (writeRows packet room)
+
 unfoldable pub writeVerdict : Telegram → List ℕ → Verdict
-writeVerdict t buffer = verdictOf (ladder 0 (writeRows (t .packet) (length buffer)))
+writeVerdict t buffer = verdictOf (writeRefusal (t .packet) (length buffer))
 
 -- R-25: a refused call changes no byte
 unfoldable pub written : Telegram → List ℕ → List ℕ
-written t buffer = cond (eqb (ladder 0 (writeRows (t .packet) (length buffer))) 0) (bytesOf t) buffer
+written t buffer = cond (eqb (writeRefusal (t .packet) (length buffer)) 0) (bytesOf t) buffer

@@ -1,6 +1,7 @@
 // Reading a telegram of any bytes and any length: its refusal (10, 11, then the first bad slot with 12, 13, 6, 14), or what it means.
 use condition::Body;
 use condition::Coded;
+use condition::STEPS;
 use condition::Slot;
 use condition::Verdict;
 use telegram::Reading;
@@ -10,7 +11,7 @@ ghost use Prim.Native.Nat.{_<_, _≤_};
 ghost use lib.ListN.{length};
 ghost use Rattle.kit.specs.Each.{each};
 ghost use Rattle.kit.specs.Ladder.{ladder};
-ghost use Rattle.telegram.specs.Telegrams.{codedAt, slotAt, takenBefore, takenRow, placeRows, readRows, telegramOf, readOf, blank};
+ghost use Rattle.telegram.specs.Telegrams.{headIn, codedAt, slotAt, takenBefore, takenRow, placeRows, readRefusal, telegramOf, readOf, blank};
 
 // The six bytes of place k, 0 to 3.
 fn coded_at(bytes: &[u8], k: usize) -> Coded
@@ -82,14 +83,22 @@ fn places_refusal(bytes: &[u8]) -> u8
     0
 }
 
+// Bytes 0 and 1: packet number in the top three bits, step number in the low thirteen.
+fn head_of(bytes: &[u8]) -> u16
+    requires { ⌜ length (now bytes) ≡ 26 ⌝ }
+    ensures { λ r. ⌜ r ≡ headIn (now (bytes .entry)) ⌝ }
+{
+    condition::word(bytes[0], bytes[1])
+}
+
 // The refusal of a telegram, or 0.
 fn refusal_of(bytes: &[u8]) -> u8
-    ensures { λ r. ⌜ r ≡ ladder 0 (readRows (now (bytes .entry))) ⌝ }
+    ensures { λ r. ⌜ r ≡ readRefusal (now (bytes .entry)) ⌝ }
 {
     if bytes.len() != 26 {
         return 10;
     }
-    if bytes[0] / 32 < 3 {
+    if head_of(bytes) / STEPS < 3 {
         return 11;
     }
     places_refusal(bytes)
@@ -111,6 +120,7 @@ fn telegram_of(bytes: &[u8]) -> Telegram
     requires { ⌜ length (now bytes) ≡ 26 ⌝ }
     ensures { λ r. ⌜ r ≡ telegramOf (now (bytes .entry)) ⌝ }
 {
+    let head = head_of(bytes);
     let slots = [
         slot_at(bytes, 0),
         slot_at(bytes, 1),
@@ -118,8 +128,8 @@ fn telegram_of(bytes: &[u8]) -> Telegram
         slot_at(bytes, 3),
     ];
     Telegram {
-        packet: bytes[0] / 32,
-        step: condition::word(bytes[0] % 32, bytes[1]),
+        packet: (head / STEPS) as u8,
+        step: head % STEPS,
         slots,
     }
 }

@@ -1,5 +1,6 @@
 // Writing a telegram into a buffer of any length: refused 9, then 10, with no byte changed, or all 26 bytes.
 use condition::Coded;
+use condition::STEPS;
 use condition::Slot;
 use condition::Verdict;
 use telegram::Telegram;
@@ -8,10 +9,9 @@ ghost use mathlib.Core.List.{[], _∷_};
 ghost use Prim.Native.Nat.{_+_, _<_, _≤_};
 ghost use lib.ListN.{length};
 ghost use Rattle.kit.specs.Bytes.{wordBytes};
-ghost use Rattle.kit.specs.Ladder.{ladder};
 ghost use Rattle.kit.specs.Put.{Put};
 ghost use Rattle.condition.specs.Slots.{codedOf, sixOf};
-ghost use Rattle.telegram.specs.Telegrams.{headOf, bytesOf, writeRows, writeVerdict, written};
+ghost use Rattle.telegram.specs.Telegrams.{headOf, bytesOf, writeRefusal, writeVerdict, written};
 
 fn put_byte(buffer: &mut [u8], at: usize, byte: u8) -> usize
     requires { ⌜ at < length (now buffer) ⌝ }
@@ -51,7 +51,7 @@ fn put_slot(buffer: &mut [u8], at: usize, slot: Slot) -> usize
 fn head_of(packet: u8, step: u16) -> u16
     ensures { λ r. ⌜ r ≡ headOf packet step ⌝ }
 {
-    (packet % 8) as u16 * 8192 + step % 8192
+    (packet % 8) as u16 * STEPS + step % STEPS
 }
 
 fn put_telegram(buffer: &mut [u8], telegram: Telegram)
@@ -68,7 +68,7 @@ fn put_telegram(buffer: &mut [u8], telegram: Telegram)
 
 // The refusal of a packet number and a buffer's length, or 0.
 fn refusal_of(packet: u8, length: usize) -> u8
-    ensures { λ r. ⌜ r ≡ ladder 0 (writeRows packet length) ⌝ }
+    ensures { λ r. ⌜ r ≡ writeRefusal packet length ⌝ }
 {
     if packet < 3 {
         return 9;
