@@ -22,6 +22,7 @@ pub use steps::STEPS;
 pub use steps::gap;
 pub use verdicts::Verdict;
 pub use verdicts::above;
+pub use words::is_kind;
 pub use words::second_allowed;
 pub use words::second_held;
 pub use words::word;

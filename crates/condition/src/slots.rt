@@ -4,9 +4,9 @@ ghost use Rattle.condition.specs.Slots.{bodyOf, slotRefusal, slotOf, cod
 use crate::verdicts::Verdict;
 use crate::words::COUNTRIES;
 use crate::words::CURRENT;
-use crate::words::LAST_KIND;
 use crate::words::TRACTION;
 use crate::words::VOLTAGES;
+use crate::words::is_kind;
 use crate::words::second_allowed;
 use crate::words::second_held;
 
@@ -66,17 +66,14 @@ pub fn body_of(kind: u8, first: u16, second: u16) -> Body
             limit: held,
         };
     }
-    if kind == 0 {
-        return Body::Empty;
+    if is_kind(kind) {
+        return Body::Area {
+            kind,
+            entry: first,
+            exit: second,
+        };
     }
-    if LAST_KIND < kind {
-        return Body::Empty;
-    }
-    Body::Area {
-        kind,
-        entry: first,
-        exit: second,
-    }
+    Body::Empty
 }
 
 // The first of the rows 12, 13 and 6 that holds, or 0.
@@ -95,10 +92,7 @@ pub fn refusal_of(coded: Coded) -> u8
         }
         return 0;
     }
-    if coded.kind == 0 {
-        return 13;
-    }
-    if LAST_KIND < coded.kind {
+    if !is_kind(coded.kind) {
         return 13;
     }
     if second_allowed(coded.kind, coded.first, coded.second) {

@@ -1,7 +1,7 @@
 // The words of a condition, and which second words its type allows.
 ghost use mathlib.Core.Path.{_≡_};
 ghost use Rattle.kit.specs.Bytes.{word};
-ghost use Rattle.condition.specs.Words.{isConsidered, secondAllowed, secondHeld};
+ghost use Rattle.condition.specs.Words.{isType, tractionWord, currentWord, isConsidered, secondAllowed, secondHeld};
 use crate::distances::NO_VALUE;
 
 // A word of two bytes, high byte first.
@@ -16,7 +16,7 @@ pub const TRACTION: u8 = 4;
 
 pub const CURRENT: u8 = 5;
 
-pub const LAST_KIND: u8 = 9;
+const LAST_KIND: u8 = 9;
 
 // Of a change of traction system, the second word has the voltage in its low four bits and the country in the ten above. The two
 // bits above those are zero.
@@ -32,6 +32,16 @@ const LIMIT_MOST: u16 = 1000;
 
 const NO_RESTRICTION: u16 = 1023;
 
+// Whether a number is a type of condition, 1 to 9.
+pub fn is_kind(kind: u8) -> bool
+    ensures { λ r. ⌜ r ≡ isType kind ⌝ }
+{
+    if kind == 0 {
+        return false;
+    }
+    kind <= LAST_KIND
+}
+
 // Whether the second word is looked at: not for a change of traction system or of current whose change distance is missing.
 fn considered(kind: u8, first: u16) -> bool
     ensures { λ r. ⌜ r ≡ isConsidered kind first ⌝ }
@@ -45,7 +55,25 @@ fn considered(kind: u8, first: u16) -> bool
     kind != CURRENT
 }
 
-// Whether the second word is allowed for the type (row 6).
+fn traction_word(second: u16) -> bool
+    ensures { λ r. ⌜ r ≡ tractionWord second ⌝ }
+{
+    if second < ABOVE_COUNTRY {
+        return second % VOLTAGES <= VOLTAGE_MOST;
+    }
+    false
+}
+
+fn current_word(second: u16) -> bool
+    ensures { λ r. ⌜ r ≡ currentWord second ⌝ }
+{
+    if second <= LIMIT_MOST {
+        return true;
+    }
+    second == NO_RESTRICTION
+}
+
+// Whether the second word is allowed for the type (row 6). Between entry and exit no order is asked.
 pub fn second_allowed(kind: u8, first: u16, second: u16) -> bool
     ensures { λ r. ⌜ r ≡ secondAllowed kind first second ⌝ }
 {
@@ -53,16 +81,10 @@ pub fn second_allowed(kind: u8, first: u16, second: u16) -> bool
         return true;
     }
     if kind == TRACTION {
-        if second < ABOVE_COUNTRY {
-            return second % VOLTAGES <= VOLTAGE_MOST;
-        }
-        return false;
+        return traction_word(second);
     }
     if kind == CURRENT {
-        if second <= LIMIT_MOST {
-            return true;
-        }
-        return second == NO_RESTRICTION;
+        return current_word(second);
     }
     true
 }

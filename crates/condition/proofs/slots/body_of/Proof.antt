@@ -1,7 +1,6 @@
 -- `body_of`: each answer by the tests that led to it; the word as it is held is `second_held`'s answer.
-use mathlib.Core.Path.{sym}
-use Rattle.kit.proofs.Cases.{above-zero, at-zero}
-use borrow.Author.Tests.{eq-eqb, ne-eqb, le-leb, lt-leb}
+use mathlib.Core.Path.{sym, _∙_}
+use borrow.Author.Tests.{eq-eqb, ne-eqb}
 use Rattle.condition.specs.Slots.{bodyOf}
 use borrow.Author.Needs.{needs}
 use Rattle.condition.proofs.slots.body_of.Statement.{statement}
@@ -21,31 +20,18 @@ returns-2 : tie.Need-returns-2
 unfolding bodyOf
 returns-2 c = simp (ne-eqb _ _ (c .before .if1 .left), eq-eqb _ _ (c .if2 .taken), sym (c .before .before .second-held .ensures))
 
+is-kind-requires : tie.Need-is-kind-requires
+is-kind-requires c κs = search needs
+
 returns-3 : tie.Need-returns-3
 unfolding bodyOf
-returns-3 c = simp (ne-eqb _ _ (c .before .before .if1 .left), ne-eqb _ _ (c .before .if2 .left), at-zero _ (c .if3 .taken))
+returns-3 c = simp (ne-eqb _ _ (c .before .before .before .if1 .left), ne-eqb _ _ (c .before .before .if2 .left), sym (c .before .is-kind .ensures) ∙ c .if3 .taken)
 
 returns-4 : tie.Need-returns-4
 unfolding bodyOf
-returns-4 c =
-    simp (
-      ne-eqb _ _ (c .before .before .before .if1 .left),
-      ne-eqb _ _ (c .before .before .if2 .left),
-      above-zero _ (c .before .if3 .left),
-      lt-leb _ _ (c .if4 .taken),
-    )
-
-returns-5 : tie.Need-returns-5
-unfolding bodyOf
-returns-5 c =
-    simp (
-      ne-eqb _ _ (c .before .before .before .if1 .left),
-      ne-eqb _ _ (c .before .before .if2 .left),
-      above-zero _ (c .before .if3 .left),
-      le-leb _ _ (c .if4 .left),
-    )
+returns-4 c = simp (ne-eqb _ _ (c .before .before .before .if1 .left), ne-eqb _ _ (c .before .before .if2 .left), sym (c .before .is-kind .ensures) ∙ c .if3 .left)
 
 pub body-of-spec : {M : Type 1} → statement M
 body-of-spec =
     tie.close
-    (tie.spec second-held-requires cast-t9 returns returns-2 returns-3 returns-4 returns-5)
+    (tie.spec second-held-requires cast-t9 returns returns-2 is-kind-requires returns-3 returns-4)

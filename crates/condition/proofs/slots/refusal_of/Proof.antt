@@ -1,19 +1,19 @@
 -- `refusal_of`: each answer by the tests that led to it, row by row of the ladder.
 use mathlib.Core.Path.{_≡_, refl, sym, _∙_}
-use Rattle.kit.proofs.Cases.{above-zero, at-zero}
-use borrow.Author.Tests.{eq-eqb, ne-eqb, le-leb, lt-leb}
+use borrow.Author.Tests.{eq-eqb, ne-eqb, not-true, not-false}
 use Rattle.kit.specs.Ladder.{ladder}
+use Rattle.kit.proofs.Cases.{above-zero}
 use Rattle.condition.specs.Words.{isConsidered, secondAllowed}
-use Rattle.condition.specs.Slots.{slotRows}
+use Rattle.condition.specs.Slots.{slotRefusal}
 use Rattle.condition.specs.declared.slots.Coded.{Coded}
 use borrow.Author.Needs.{needs}
 use Rattle.condition.proofs.slots.refusal_of.Statement.{statement}
 use Rattle.condition.proofs.slots.refusal_of.Tie as tie
 
 -- six zero bytes are no refusal
-empty-rows : (x : Coded) → x .number ≡ 0 → x .kind ≡ 0 → x .first ≡ 0 → x .second ≡ 0 → ladder 0 (slotRows x) ≡ 0
+empty-slot : (x : Coded) → x .number ≡ 0 → x .kind ≡ 0 → x .first ≡ 0 → x .second ≡ 0 → slotRefusal x ≡ 0
 unfolding ladder secondAllowed isConsidered
-empty-rows x n k f s = rw (n, k, f, s) refl
+empty-slot x n k f s = rw (n, k, f, s) refl
 
 returns : tie.Need-returns
 unfolding ladder
@@ -30,47 +30,40 @@ returns-3 c =
     (eq-eqb _ _ (c .before .before .before .before .before .before .if1 .taken), eq-eqb _ _ (c .before .before .before .before .if2 .left), eq-eqb _ _ (c .before .before .if3 .left), ne-eqb _ _ (c .if4 .taken))
 
 returns-4 : tie.Need-returns-4
-returns-4 c = sym (empty-rows _ (c .before .before .before .before .before .before .if1 .taken) (c .before .before .before .before .if2 .left) (c .before .before .if3 .left) (c .if4 .left))
+returns-4 c = sym (empty-slot _ (c .before .before .before .before .before .before .if1 .taken) (c .before .before .before .before .if2 .left) (c .before .before .if3 .left) (c .if4 .left))
+
+is-kind-requires : tie.Need-is-kind-requires
+is-kind-requires c κs = search needs
 
 returns-5 : tie.Need-returns-5
 unfolding ladder
 returns-5 c =
-    simp
-    (ne-eqb _ _ (c .before .before .if1 .left), above-zero _ (c .before .before .if1 .left), at-zero _ (c .if5 .taken))
-
-returns-6 : tie.Need-returns-6
-unfolding ladder
-returns-6 c =
-    simp (
-      ne-eqb _ _ (c .before .before .before .before .if1 .left),
-      above-zero _ (c .before .before .before .before .if1 .left),
-      above-zero _ (c .before .before .if5 .left),
-      lt-leb _ _ (c .if6 .taken),
-    )
+    let n = c .before .before .if1 .left in
+    simp (ne-eqb _ _ n, above-zero _ n, sym (c .before .is-kind .ensures) ∙ not-true _ (c .if5 .taken))
 
 second-allowed-requires : tie.Need-second-allowed-requires
 second-allowed-requires c κs = search needs
 
+returns-6 : tie.Need-returns-6
+unfolding ladder
+returns-6 c =
+    let n = c .before .before .before .before .if1 .left in
+    simp (
+      ne-eqb _ _ n,
+      above-zero _ n,
+      sym (c .before .before .before .is-kind .ensures) ∙ not-false _ (c .before .before .if5 .left),
+      sym (c .before .second-allowed .ensures) ∙ c .if6 .taken,
+    )
+
 returns-7 : tie.Need-returns-7
 unfolding ladder
 returns-7 c =
+    let n = c .before .before .before .before .if1 .left in
     simp (
-      ne-eqb _ _ (c .before .before .before .before .before .before .if1 .left),
-      above-zero _ (c .before .before .before .before .before .before .if1 .left),
-      above-zero _ (c .before .before .before .before .if5 .left),
-      le-leb _ _ (c .before .before .if6 .left),
-      sym (c .before .second-allowed .ensures) ∙ c .if7 .taken,
-    )
-
-returns-8 : tie.Need-returns-8
-unfolding ladder
-returns-8 c =
-    simp (
-      ne-eqb _ _ (c .before .before .before .before .before .before .if1 .left),
-      above-zero _ (c .before .before .before .before .before .before .if1 .left),
-      above-zero _ (c .before .before .before .before .if5 .left),
-      le-leb _ _ (c .before .before .if6 .left),
-      sym (c .before .second-allowed .ensures) ∙ c .if7 .left,
+      ne-eqb _ _ n,
+      above-zero _ n,
+      sym (c .before .before .before .is-kind .ensures) ∙ not-false _ (c .before .before .if5 .left),
+      sym (c .before .second-allowed .ensures) ∙ c .if6 .left,
     )
 
 pub refusal-of-spec : {M : Type 1} → statement M
@@ -81,8 +74,8 @@ refusal-of-spec =
     returns-2
     returns-3
     returns-4
+    is-kind-requires
     returns-5
-    returns-6
     second-allowed-requires
-    returns-7
-    returns-8)
+    returns-6
+    returns-7)
