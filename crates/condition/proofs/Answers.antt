@@ -14,6 +14,9 @@ use Rattle.condition.specs.Verdicts.{numberOf, verdictOf}
 use Rattle.condition.specs.declared.verdicts.Verdict.{Verdict}
 use Rattle.condition.specs.declared.verdicts.Verdict.the-variants.{Accepted, Refused}
 
+pub accepted-or-refused : (number : ℕ) → Accepted ≡ Refused number → ⊥
+accepted-or-refused number e = let z : _≡_ {A = ℕ} 0 1 = cc in omega arith
+
 pub verdict-accepted : (number : ℕ) → number ≡ 0 → verdictOf number ≡ Accepted
 unfolding verdictOf
 verdict-accepted number e = rw (eq-eqb number 0 e) refl
@@ -39,7 +42,7 @@ module _ (rows : List (Bool × ℕ)) (numbered : Numbered rows) where
       there e =
           let n : ladder 0 rows ≡ number = verdict-number (Refused number) e in
           on (eqb (ladder 0 rows) 0)
-          (λ z. absurd (let x : Accepted ≡ Refused number = sym (verdict-accepted (ladder 0 rows) (eqb-true _ 0 z)) ∙ e in let y : _≡_ {A = ℕ} 0 1 = cc in omega arith))
+          (λ z. absurd (accepted-or-refused number (sym (verdict-accepted (ladder 0 rows) (eqb-true _ 0 z)) ∙ e)))
           (λ z. refused-exactly rows numbered number (omega (arith, eqb-false (ladder 0 rows) 0 z)) .0 n)
 
       back : Decides rows number → verdictOf (ladder 0 rows) ≡ Refused number

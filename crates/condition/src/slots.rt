@@ -1,6 +1,6 @@
 // A slot, and the number, type and two words that code it.
 ghost use mathlib.Core.Path.{_≡_};
-ghost use Rattle.condition.specs.Slots.{bodyOf, slotRefusal, slotOf, codedOf};
+ghost use Rattle.condition.specs.Slots.{emptySlot, bodyOf, slotRefusal, slotOf, codedOf};
 use crate::verdicts::Verdict;
 use crate::words::COUNTRIES;
 use crate::words::CURRENT;
@@ -32,6 +32,17 @@ pub enum Body {
 pub struct Slot {
     pub number: u8,
     pub body: Body,
+}
+
+impl Slot {
+    pub fn empty() -> Self
+        ensures { λ r. ⌜ r ≡ emptySlot ⌝ }
+    {
+        Slot {
+            number: 0,
+            body: Body::Empty,
+        }
+    }
 }
 
 // A slot as it is coded: the six bytes' number, type, first word and second word.
@@ -109,10 +120,7 @@ pub fn slot_of(coded: Coded) -> SlotReading
     if refusal != 0 {
         return SlotReading {
             verdict: Verdict::Refused(refusal),
-            slot: Slot {
-                number: 0,
-                body: Body::Empty,
-            },
+            slot: Slot::empty(),
         };
     }
     SlotReading {

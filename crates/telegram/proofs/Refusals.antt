@@ -1,15 +1,19 @@
--- Demand 1 of telegrams (R-19, R-20, R-23): each refusal is given exactly when its row holds and no earlier one does.
+-- Demand 1 of telegrams (R-19, R-20, R-23, R-25): each refusal is given exactly when its row holds and no earlier one does, and a
+-- refused write changes no byte.
 use Prim.Native.Nat.{ℕ}
-use mathlib.Core.Path.{_≡_}
+use mathlib.Core.Path.{_≡_, refl, sym, _∙_}
 use mathlib.Core.Logic.{_↔_}
 use mathlib.Core.List.{List}
+use lib.Dec.{eqb}
 use lib.ListN.{length}
+use borrow.Author.Tests.{eqb-true, eqb-false}
 use Rattle.kit.specs.Ladder.{Decides, Silent}
-use Rattle.condition.proofs.Answers.{refused-when, accepted-when}
+use Rattle.kit.proofs.Cases.{on}
+use Rattle.condition.proofs.Answers.{accepted-or-refused, refused-when, accepted-when}
 use Rattle.condition.specs.declared.verdicts.Verdict.the-variants.{Accepted, Refused}
-use Rattle.telegram.specs.Telegrams.{readRows, readOf, writeRows, writeVerdict}
+use Rattle.telegram.specs.Telegrams.{readRows, readOf, bytesOf, writeRows, writeRefusal, writeVerdict, written}
 use Rattle.telegram.specs.declared.Telegram.{Telegram}
-use Rattle.telegram.proofs.Rows.{read-numbered, write-numbered}
+use Rattle.telegram.proofs.Rows.{read-numbered, write-numbered, write-refused, write-accepted}
 
 module _ (bytes : List ℕ) where
   pub reading-refused : (number : ℕ) → (readOf bytes .verdict ≡ Refused number) ↔ Decides (readRows bytes) number
@@ -28,3 +32,19 @@ module _ (t : Telegram) (buffer : List ℕ) where
   pub writing-accepted : (writeVerdict t buffer ≡ Accepted) ↔ Silent (writeRows (t .packet) (length buffer))
   unfolding writeVerdict
   writing-accepted = accepted-when (writeRows (t .packet) (length buffer)) (write-numbered (t .packet) (length buffer))
+
+  -- M-1e, R-25: a refused write changes no byte
+  pub refused-untouched : (number : ℕ) → writeVerdict t buffer ≡ Refused number → written t buffer ≡ buffer
+  refused-untouched number e =
+      let refusal : ℕ = writeRefusal (t .packet) (length buffer) in
+      on (eqb refusal 0)
+      (λ z. absurd (accepted-or-refused number (sym (write-accepted t buffer refusal refl (eqb-true refusal 0 z) .0) ∙ e)))
+      (λ z. write-refused t buffer refusal refl (eqb-false refusal 0 z) .1)
+
+  -- M-2a: an accepted one leaves the telegram's 26 bytes
+  pub accepted-written : writeVerdict t buffer ≡ Accepted → written t buffer ≡ bytesOf t
+  accepted-written e =
+      let refusal : ℕ = writeRefusal (t .packet) (length buffer) in
+      on (eqb refusal 0)
+      (λ z. write-accepted t buffer refusal refl (eqb-true refusal 0 z) .1)
+      (λ z. absurd (accepted-or-refused refusal (sym e ∙ write-refused t buffer refusal refl (eqb-false refusal 0 z) .0)))

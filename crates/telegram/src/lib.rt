@@ -1,13 +1,19 @@
 // What a telegram of 26 bytes means: a packet number, a step number and four slots; and which four of a table's twenty slots a
 // packet carries. specs/ has the layout and the refusals, proofs/ the theorems on them; the crates telegram_reader and
 // telegram_writer have the code.
-use condition::Body;
 use condition::Slot;
 use condition::Verdict;
 ghost use mathlib.Core.Path.{_≡_};
 ghost use lib.ListN.{getD};
 ghost use Rattle.condition.specs.Slots.{emptySlot};
 ghost use Rattle.telegram.specs.Tables.{firstSlot, fourOf};
+
+// How many bytes a telegram has, and the packets that carry a table.
+pub const LENGTH: usize = 26;
+
+pub const FIRST_PACKET: u8 = 3;
+
+pub const LAST_PACKET: u8 = 7;
 
 pub struct Telegram {
     pub packet: u8,
@@ -27,10 +33,7 @@ fn slot_in(table: [Slot; 20], i: usize) -> Slot
     if i < 20 {
         return table[i];
     }
-    Slot {
-        number: 0,
-        body: Body::Empty,
-    }
+    Slot::empty()
 }
 
 // The first of the slots that a packet carries. Packets 0 to 2 are taken as packet 3, and those above 7 lie past the table: the
@@ -38,10 +41,10 @@ fn slot_in(table: [Slot; 20], i: usize) -> Slot
 pub fn first_slot(packet: u8) -> usize
     ensures { λ r. ⌜ r ≡ firstSlot packet ⌝ }
 {
-    if packet < 3 {
+    if packet < FIRST_PACKET {
         return 0;
     }
-    4 * ((packet - 3) as usize)
+    4 * ((packet - FIRST_PACKET) as usize)
 }
 
 // Packet p carries slots 4(p-3) to 4(p-3)+3; past the table's end they are empty.

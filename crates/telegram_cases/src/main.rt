@@ -109,10 +109,7 @@ fn writing_case(packet: u8, buffer: &mut [u8]) {
 }
 
 fn first_condition(packet: u8) -> Telegram {
-    let none = Slot {
-        number: 0,
-        body: Body::Empty,
-    };
+    let none = Slot::empty();
     let area = Slot {
         number: 1,
         body: Body::Area {

@@ -1,9 +1,10 @@
 // Reading a telegram of any bytes and any length: its refusal (10, 11, then the first bad slot with 12, 13, 6, 14), or what it means.
-use condition::Body;
 use condition::Coded;
 use condition::STEPS;
 use condition::Slot;
 use condition::Verdict;
+use telegram::FIRST_PACKET;
+use telegram::LENGTH;
 use telegram::Reading;
 use telegram::Telegram;
 ghost use mathlib.Core.Path.{_≡_};
@@ -95,10 +96,10 @@ fn head_of(bytes: &[u8]) -> u16
 fn refusal_of(bytes: &[u8]) -> u8
     ensures { λ r. ⌜ r ≡ readRefusal (now (bytes .entry)) ⌝ }
 {
-    if bytes.len() != 26 {
+    if bytes.len() != LENGTH {
         return 10;
     }
-    if head_of(bytes) / STEPS < 3 {
+    if head_of(bytes) / STEPS < FIRST_PACKET as u16 {
         return 11;
     }
     places_refusal(bytes)
@@ -137,10 +138,7 @@ fn telegram_of(bytes: &[u8]) -> Telegram
 fn blank_telegram() -> Telegram
     ensures { λ r. ⌜ r ≡ blank ⌝ }
 {
-    let none = Slot {
-        number: 0,
-        body: Body::Empty,
-    };
+    let none = Slot::empty();
     Telegram {
         packet: 0,
         step: 0,
@@ -148,6 +146,7 @@ fn blank_telegram() -> Telegram
     }
 }
 
+// What a telegram of any bytes and any length means, or its refusal.
 pub fn read(bytes: &[u8]) -> Reading
     ensures { λ r. ⌜ r ≡ readOf (now (bytes .entry)) ⌝ }
 {

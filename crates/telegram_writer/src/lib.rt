@@ -3,6 +3,9 @@ use condition::Coded;
 use condition::STEPS;
 use condition::Slot;
 use condition::Verdict;
+use telegram::FIRST_PACKET;
+use telegram::LAST_PACKET;
+use telegram::LENGTH;
 use telegram::Telegram;
 ghost use mathlib.Core.Path.{_≡_};
 ghost use mathlib.Core.List.{[], _∷_};
@@ -70,18 +73,19 @@ fn put_telegram(buffer: &mut [u8], telegram: Telegram)
 fn refusal_of(packet: u8, length: usize) -> u8
     ensures { λ r. ⌜ r ≡ writeRefusal packet length ⌝ }
 {
-    if packet < 3 {
+    if packet < FIRST_PACKET {
         return 9;
     }
-    if 7 < packet {
+    if LAST_PACKET < packet {
         return 9;
     }
-    if length != 26 {
+    if length != LENGTH {
         return 10;
     }
     0
 }
 
+// Writes a telegram into a buffer of any length, or refuses and leaves the buffer as it is.
 pub fn write(telegram: Telegram, buffer: &mut [u8]) -> Verdict
     ensures { λ r. ⌜ (r ≡ writeVerdict telegram (now (buffer .entry))) × (now (buffer .exit) ≡ written telegram (now (buffer .entry))) ⌝ }
 {

@@ -1,6 +1,6 @@
 -- `slot_in`: past the table's end a slot is empty.
 use Prim.Native.Nat.{_≤_}
-use mathlib.Core.Path.{sym}
+use mathlib.Core.Path.{sym, _∙_}
 use native.Mathlib.Omega.{arith}
 use lib.ListN.{length, List·getD-eq-default}
 use Rattle.condition.specs.Slots.{emptySlot}
@@ -17,11 +17,15 @@ array-copy-out-result c = search needs
 returns : tie.Need-returns
 returns c = search needs
 
+empty-requires : tie.Need-empty-requires
+empty-requires c κs = search needs
+
 returns-2 : tie.Need-returns-2
 returns-2 c =
-    let a = c .before .args in
-    let past : length (a .t1) ≤ a .i = omega (arith, c .before .good .0 .1 .0 .1) in
-    sym (List·getD-eq-default (a .t1) emptySlot past)
+    let a = c .before .before .args in
+    let past : length (a .t1) ≤ a .i = omega (arith, c .before .before .good .0 .1 .0 .1) in
+    c .empty .ensures ∙ sym (List·getD-eq-default (a .t1) emptySlot past)
 
 pub slot-in-spec : {M : Type 1} → statement M
-slot-in-spec = tie.close (tie.spec mul-result array-copy-out-result returns returns-2)
+slot-in-spec =
+    tie.close (tie.spec mul-result array-copy-out-result returns empty-requires returns-2)

@@ -14,6 +14,9 @@ returns c = simp (ne-eqb _ _ (c .if1 .taken))
 head-of-requires : tie.Need-head-of-requires
 head-of-requires c κs = search needs
 
+cast-if2 : tie.Need-cast-if2
+cast-if2 c = search needs
+
 returns-2 : tie.Need-returns-2
 unfolding ladder readRows
 returns-2 c = simp (eq-eqb _ _ (c .before .before .if1 .left), sym (c .before .head-of .ensures), lt-ltb _ _ (c .if2 .taken))
@@ -27,4 +30,5 @@ returns-3 c = simp (eq-eqb _ _ (c .before .before .before .if1 .left), sym (c .b
 
 pub refusal-of-spec : {M : Type 1} → statement M
 refusal-of-spec =
-    tie.close (tie.spec returns head-of-requires returns-2 places-refusal-requires returns-3)
+    tie.close
+    (tie.spec returns head-of-requires cast-if2 returns-2 places-refusal-requires returns-3)

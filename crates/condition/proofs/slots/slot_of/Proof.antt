@@ -10,9 +10,13 @@ use Rattle.condition.proofs.slots.slot_of.Tie as tie
 refusal-of-requires : tie.Need-refusal-of-requires
 refusal-of-requires c κs = search needs
 
+empty-requires : tie.Need-empty-requires
+empty-requires c κs = search needs
+
 returns : tie.Need-returns
 unfolding slotOf
-returns c = simp (sym (c .before .refusal-of .ensures), verdict-refused _ (c .if1 .taken), ne-eqb _ _ (c .if1 .taken))
+returns c =
+    simp (c .empty .ensures, sym (c .before .before .refusal-of .ensures), verdict-refused _ (c .before .if1 .taken), ne-eqb _ _ (c .before .if1 .taken))
 
 body-of-requires : tie.Need-body-of-requires
 body-of-requires c κs = search needs
@@ -23,4 +27,5 @@ returns-2 c =
     simp (sym (c .before .before .refusal-of .ensures), verdict-accepted _ (c .before .if1 .left), eq-eqb _ _ (c .before .if1 .left), sym (c .body-of .ensures))
 
 pub slot-of-spec : {M : Type 1} → statement M
-slot-of-spec = tie.close (tie.spec refusal-of-requires returns body-of-requires returns-2)
+slot-of-spec =
+    tie.close (tie.spec refusal-of-requires empty-requires returns body-of-requires returns-2)
