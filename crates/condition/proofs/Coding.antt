@@ -21,6 +21,7 @@ use Rattle.condition.specs.declared.verdicts.Verdict.the-variants.{Accep
 use Rattle.condition.proofs.Answers.{verdict-accepted, refused-when, accepted-when}
 
 pub slot-numbered : (c : Coded) → Numbered (slotRows c)
+unfolding slotRows
 slot-numbered c = omega arith
 
 -- what a coded slot is that no row refuses: all zero, or a numbered one with a type and a second word that are allowed
@@ -36,6 +37,7 @@ pub record Filled (c : Coded) : Type 0 where
   pub allowed : secondAllowed (c .kind) (c .first) (c .second) ≡ true
 
 pub rows-say : (c : Coded) → Silent (slotRows c) → Zero c ⊎ Filled c
+unfolding slotRows
 rows-say c (row12, (row13, (row6, u))) =
     on (eqb (c .number) 0)
     (λ e.
@@ -159,7 +161,7 @@ abbrev Back : ℕ → Body → Type 0
 Back number body = Silent (slotRows (coding number body)) × (slotIn (coding number body) ≡ record { number = number; body = body })
 
 back : (number : ℕ) (body : Body) → HeldBody number body → Back number body
-unfolding bodyOf secondAllowed secondHeld isConsidered
+unfolding slotRows bodyOf secondAllowed secondHeld isConsidered
 back number Empty w = ((refl, (refl, (refl, tt))), ap (λ n. record { number = n; body = Empty }) (sym w))
 back number (Area kind entry exit) (p, t, a, b) =
     let n0 : eqb number 0 ≡ false = ne-eqb number 0 (omega arith) in

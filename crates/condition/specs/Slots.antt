@@ -34,7 +34,7 @@ slotIn c = record { number = c .number; body = bodyOf (c .kind) (c .first) (c .s
 -- R-12: slot number 0 with another byte not zero
 -- R-13: slot number above 0, type not 1 to 9
 -- R-06: second word not allowed for the type
-abbrev pub slotRows : Coded → List (Bool × ℕ)
+unfoldable pub slotRows : Coded → List (Bool × ℕ)
 slotRows c =
     (eqb (c .number) 0 && not (eqb (c .kind) 0 && eqb (c .first) 0 && eqb (c .second) 0), 12)
     ∷ (ltb 0 (c .number) && not (isType (c .kind)), 13)

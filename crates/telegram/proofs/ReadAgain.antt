@@ -36,7 +36,7 @@ module _ (t : Telegram) (s : Sendable t) where
   number-on k p = ap (λ c. c .number) (coded-on t k p) ∙ coded-number (slotOn t k .number) (slotOn t k .body) (s .held k)
 
   untaken : (k : ℕ) → k < 4 → ltb 0 (codedAt (bytesOf t) k .number) && takenBefore (bytesOf t) k (codedAt (bytesOf t) k .number) ≡ false
-  unfolding takenBefore
+  unfolding takenBefore codedAt
   untaken k p =
       let n : ℕ = codedAt (bytesOf t) k .number in
       on (ltb 0 n)

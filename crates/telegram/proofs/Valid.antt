@@ -56,7 +56,7 @@ module _ (bytes : List ℕ) (s : Silent (readRows bytes)) where
       (λ k. refl)
 
   distinct-read : (i j : ℕ) → i < j → j < 4 → 0 < slotOn (telegramOf bytes) i .number → slotOn (telegramOf bytes) i .number ≡ slotOn (telegramOf bytes) j .number → ⊥
-  unfolding takenBefore
+  unfolding takenBefore codedAt
   distinct-read i j p q positive same =
       let a : slotOn (telegramOf bytes) i .number ≡ getD bytes (place i) 0 = ap (λ x. x .number) (slot-meant bytes i (omega arith)) in
       let b : slotOn (telegramOf bytes) j .number ≡ getD bytes (place j) 0 = ap (λ x. x .number) (slot-meant bytes j q) in

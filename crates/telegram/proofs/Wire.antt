@@ -34,7 +34,7 @@ module _ (t : Telegram) where
       ∙ (each-at (sixAt (t .slots)) 6 (six-size (t .slots)) 0 0 4 k r p q ∙ ap (λ (x : ℕ). getD (sixAt (t .slots) x) r 0) (zero-add k))
 
   pub coded-on : (k : ℕ) → k < 4 → codedAt (bytesOf t) k ≡ codedOf (slotOn t k)
-  unfolding sixOf
+  unfolding sixOf codedAt
   coded-on k p =
       let c : Coded = codedOf (slotOn t k) in
       let b0 : getD (bytesOf t) (place k) 0 ≡ c .number = byte-at k 0 (place k) p (omega arith) (omega arith) in

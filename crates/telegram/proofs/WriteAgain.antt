@@ -27,7 +27,7 @@ module _ (bytes : List ℕ) (fits : Bytes bytes) where
 
   -- byte r of place k, settled
   settled-byte : (k r : ℕ) → r < 6 → getD (sixOf (settled (codedAt bytes k))) r 0 ≡ cond (idleAt k r) 0 (getD bytes (place k + r) 0)
-  unfolding sixOf secondHeld
+  unfolding sixOf secondHeld codedAt
   settled-byte k zero p = ap (λ i. getD bytes i 0) (sym (add-zero (place k)))
   settled-byte k (suc zero) p = refl
   settled-byte k (suc (suc zero)) p = high-back (getD bytes (place k + 2) 0) (getD bytes (place k + 3) 0) (fits (place k + 3))
@@ -62,6 +62,7 @@ module _ (bytes : List ℕ) (fits : Bytes bytes) where
 
     -- K-12: byte by byte, the same, or zero where it is not considered
     pub write-again : (i : ℕ) → i < 26 → getD (bytesOf (telegramOf bytes)) i 0 ≡ cond (isIdle bytes i) 0 (getD bytes i 0)
+    unfolding isIdle
     write-again i p =
         on (leb 2 i)
         (λ e. rw e (place-again i ((i - 2) / 6) ((i - 2) % 6) (omega arith) (omega arith) (omega (arith, leb-true 2 i e))))

@@ -27,7 +27,7 @@ pub record Sendable (t : Telegram) : Type 0 where
 
 -- K-10, K-12: byte i is one of the two of a second word that is not considered. After the first two bytes, byte i lies in place
 -- (i - 2) / 6, and there bytes 4 and 5 are the second word.
-abbrev pub isIdle : List ℕ → ℕ → Bool
+unfoldable pub isIdle : List ℕ → ℕ → Bool
 isIdle bytes i =
     leb 2 i
     && (leb 4 ((i - 2) % 6)

@@ -36,7 +36,7 @@ headOf packet step = packet % 8 * steps + step % steps
 abbrev pub place : ℕ → ℕ
 place k = 2 + 6 * k
 
-abbrev pub codedAt : List ℕ → ℕ → Coded
+unfoldable pub codedAt : List ℕ → ℕ → Coded
 codedAt bytes k =
     record {
       number = getD bytes (place k) 0;

@@ -1,4 +1,5 @@
 -- `coded_at`: the words are those of `word`.
+use Rattle.telegram.specs.Telegrams.{codedAt}
 use borrow.Author.Needs.{needs}
 use Rattle.telegram_reader.proofs.coded_at.Statement.{statement}
 use Rattle.telegram_reader.proofs.coded_at.Tie as tie
@@ -49,6 +50,7 @@ word-requires-2 : tie.Need-word-requires-2
 word-requires-2 c κs = search needs
 
 returns : tie.Need-returns
+unfolding codedAt
 returns c = simp (c .before .before .before .word .ensures, c .word2 .ensures)
 
 pub coded-at-spec : {M : Type 1} → statement M
