@@ -13,7 +13,7 @@ noValue = 0x8000
 unfoldable pub distanceOf : ℕ → Distance
 distanceOf word = cond (eqb word noValue) Missing (cond (ltb word noValue) (Metres word) (Below (0x10000 - word)))
 
--- the word of a distance
+-- K-06, K-07: the word of a distance
 abbrev pub distanceWord : Distance → ℕ
 distanceWord Missing = noValue
 distanceWord (Metres m) = m

@@ -27,7 +27,7 @@ bodyOf kind first second =
     (cond (eqb kind 5) (Current first (secondHeld kind first second))
     (cond (isType kind) (Area kind first second) Empty))
 
--- the slot that number, type and two words mean
+-- T-03: the slot that number, type and two words mean
 abbrev pub slotIn : Coded → Slot
 slotIn c = record { number = c .number; body = bodyOf (c .kind) (c .first) (c .second) }
 
@@ -41,20 +41,22 @@ slotRows c =
     ∷ (not (secondAllowed (c .kind) (c .first) (c .second)), 6)
     ∷ []
 
+-- R-20, R-23: the first of these rows that holds, or 0
 abbrev pub slotRefusal : Coded → ℕ
 slotRefusal c = ladder 0 (slotRows c)
 
--- reading a slot: its refusal, with the empty slot beside it, or what it means
+-- M-1b, M-2b of a slot: its refusal, with the empty slot beside it, or what it means
 unfoldable pub slotOf : Coded → SlotReading
 slotOf c = record { verdict = verdictOf (slotRefusal c); slot = cond (eqb (slotRefusal c) 0) (slotIn c) emptySlot }
 
--- a slot as it is written; T-05: an empty slot is all zero
+-- K-01 to K-04, M-2a: number, type and words of a slot that is written; T-05: an empty slot is all zero
 abbrev pub coding : ℕ → Body → Coded
 coding number Empty = record { number = 0; kind = 0; first = 0; second = 0 }
 coding number (Area kind entry exit) = record { number = number; kind = kind; first = entry; second = exit }
 coding number (Traction change country voltage) = record { number = number; kind = 4; first = change; second = country % 1024 * 16 + voltage % 16 }
 coding number (Current change limit) = record { number = number; kind = 5; first = change; second = limit }
 
+-- the same, of the slot
 unfoldable pub codedOf : Slot → Coded
 codedOf x = coding (x .number) (x .body)
 
@@ -74,5 +76,6 @@ HeldBody number (Area kind entry exit) = (0 < number) × (isType kind ≡ true) 
 HeldBody number (Traction change country voltage) = (0 < number) × (country < 1024) × (voltage ≤ 5) × (change ≡ noValue → (country ≡ 0) × (voltage ≡ 0))
 HeldBody number (Current change limit) = (0 < number) × ((limit ≤ 1000) ⊎ (limit ≡ 1023)) × (change ≡ noValue → limit ≡ 0)
 
+-- the same, of the slot
 abbrev pub Held : Slot → Type 0
 Held x = HeldBody (x .number) (x .body)

@@ -5,11 +5,11 @@ use lib.Dec.{eqb}
 use Rattle.condition.specs.declared.verdicts.Verdict.{Verdict}
 use Rattle.condition.specs.declared.verdicts.Verdict.the-variants.{Accepted, Refused}
 
--- the number that a verdict gives, 0 where nothing is refused
+-- C-12: the number that a verdict gives, 0 where nothing is refused
 abbrev pub numberOf : Verdict → ℕ
 numberOf Accepted = 0
 numberOf (Refused number) = number
 
--- the verdict with a number
+-- C-12: the verdict with a number
 unfoldable pub verdictOf : ℕ → Verdict
 verdictOf number = cond (eqb number 0) Accepted (Refused number)

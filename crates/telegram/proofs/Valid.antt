@@ -16,15 +16,14 @@ use Rattle.condition.specs.Slots.{emptySlot, slotRows, Held}
 use Rattle.condition.proofs.Coding.{read-held}
 use Rattle.telegram.specs.Telegrams.{packetIn, place, codedAt, takenBefore, takenRow, placeRows, readRows, slotAt, telegramOf, readOf}
 use Rattle.telegram.specs.Sendable.{slotOn, Sendable}
-use Rattle.telegram.proofs.Four.{four-all}
+use Rattle.telegram.proofs.Four.{four-each}
 use Rattle.telegram.proofs.Rows.{read-numbered, read-refused, read-accepted}
 
 -- the slot of place k of what 26 bytes mean
 pub slot-meant : (bytes : List ℕ) (k : ℕ) → k < 4 → slotOn (telegramOf bytes) k ≡ slotAt bytes k
 unfolding telegramOf
 slot-meant bytes k p =
-    four-all (λ n x. n < 4 → x ≡ slotAt bytes n) (slotAt bytes 0) (slotAt bytes 1) (slotAt bytes 2) (slotAt bytes 3)
-    (λ q. refl) (λ q. refl) (λ q. refl) (λ q. refl) (λ n q. absurd (omega arith)) k p
+    four-each (λ n x. n < 4 → x ≡ slotAt bytes n) (slotAt bytes) (λ n below q. refl) (λ n past q. absurd (omega arith)) k p
 
 module _ (bytes : List ℕ) (s : Silent (readRows bytes)) where
   pub length-read : length bytes ≡ 26
@@ -47,13 +46,7 @@ module _ (bytes : List ℕ) (s : Silent (readRows bytes)) where
 
   held-read : (k : ℕ) → Held (slotOn (telegramOf bytes) k)
   unfolding telegramOf
-  held-read =
-      four-all (λ n x. Held x) (slotAt bytes 0) (slotAt bytes 1) (slotAt bytes 2) (slotAt bytes 3)
-      (read-held (codedAt bytes 0) (slot-read 0 (omega arith)))
-      (read-held (codedAt bytes 1) (slot-read 1 (omega arith)))
-      (read-held (codedAt bytes 2) (slot-read 2 (omega arith)))
-      (read-held (codedAt bytes 3) (slot-read 3 (omega arith)))
-      (λ k. refl)
+  held-read = four-each (λ n x. Held x) (slotAt bytes) (λ n below. read-held (codedAt bytes n) (slot-read n below)) (λ n past. refl)
 
   distinct-read : (i j : ℕ) → i < j → j < 4 → 0 < slotOn (telegramOf bytes) i .number → slotOn (telegramOf bytes) i .number ≡ slotOn (telegramOf bytes) j .number → ⊥
   unfolding takenBefore codedAt
@@ -76,7 +69,7 @@ never-invalid bytes k =
     (held-read bytes (passed-exactly (readRows bytes) (read-numbered bytes) .0 z) k))
     (λ e.
     subst (λ r. Held (slotOn (r .telegram) k)) (sym (read-refused bytes (ladder 0 (readRows bytes)) refl (eqb-false (ladder 0 (readRows bytes)) 0 e)))
-    (four-all (λ n x. Held x) emptySlot emptySlot emptySlot emptySlot refl refl refl refl (λ n. refl) k))
+    (four-each (λ n x. Held x) (λ n. emptySlot) (λ n below. refl) (λ n past. refl) k))
 
 -- what is accepted is a telegram that can be sent
 pub read-sendable : (bytes : List ℕ) → Bytes bytes → Silent (readRows bytes) → Sendable (telegramOf bytes)

@@ -12,7 +12,7 @@ use Rattle.condition.specs.declared.slots.Slot.{Slot}
 use Rattle.telegram.specs.Telegrams.{codedAt}
 use Rattle.telegram.specs.declared.Telegram.{Telegram}
 
--- the slot of place k
+-- T-03: the slot of place k
 abbrev pub slotOn : Telegram → ℕ → Slot
 slotOn t k = getD (t .slots) k emptySlot
 

@@ -9,10 +9,10 @@ use Rattle.condition.specs.declared.slots.Slot.{Slot}
 abbrev pub firstSlot : ℕ → ℕ
 firstSlot packet = 4 * (packet - 3)
 
+-- T-04: so place k of packet p is slot 4(p-3)+k
+abbrev pub carriedSlot : List Slot → ℕ → ℕ → Slot
+carriedSlot table packet k = getD table (firstSlot packet + k) emptySlot
+
+-- T-04: the four of them
 unfoldable pub fourOf : List Slot → ℕ → List Slot
-fourOf table packet =
-    getD table (firstSlot packet) emptySlot
-    ∷ getD table (firstSlot packet + 1) emptySlot
-    ∷ getD table (firstSlot packet + 2) emptySlot
-    ∷ getD table (firstSlot packet + 3) emptySlot
-    ∷ []
+fourOf table packet = carriedSlot table packet 0 ∷ carriedSlot table packet 1 ∷ carriedSlot table packet 2 ∷ carriedSlot table packet 3 ∷ []

@@ -23,19 +23,23 @@ use Rattle.telegram.specs.declared.Telegram.{Telegram}
 abbrev pub headIn : List ℕ → ℕ
 headIn bytes = word (getD bytes 0 0) (getD bytes 1 0)
 
+-- T-02: the top three bits
 abbrev pub packetIn : List ℕ → ℕ
 packetIn bytes = headIn bytes / steps
 
+-- T-02: the low thirteen
 abbrev pub stepIn : List ℕ → ℕ
 stepIn bytes = headIn bytes % steps
 
+-- T-02: the two together
 abbrev pub headOf : ℕ → ℕ → ℕ
 headOf packet step = packet % 8 * steps + step % steps
 
--- T-03: then four slots of six bytes: number, type, first word, second word
+-- T-03: then four slots of six bytes
 abbrev pub place : ℕ → ℕ
 place k = 2 + 6 * k
 
+-- T-03, K-05: number, type, first word, second word, high byte first
 unfoldable pub codedAt : List ℕ → ℕ → Coded
 codedAt bytes k =
     record {
@@ -47,7 +51,7 @@ codedAt bytes k =
 
 -- ---- reading
 
--- a number stands in one of the places below k
+-- R-14: a number stands in one of the places below k
 unfoldable pub takenBefore : List ℕ → ℕ → ℕ → Bool
 takenBefore bytes k number = any (λ j. eqb (getD bytes (place j) 0) number) 0 k
 
@@ -65,13 +69,15 @@ placeRows bytes k = slotRows (codedAt bytes k) ++ takenRow bytes k (codedAt byte
 unfoldable pub readRows : List ℕ → List (Bool × ℕ)
 readRows bytes = (not (eqb (length bytes) 26), 10) ∷ (ltb (packetIn bytes) 3, 11) ∷ each (placeRows bytes) 0 4
 
+-- R-20, R-23: the first of these rows that holds, or 0
 abbrev pub readRefusal : List ℕ → ℕ
 readRefusal bytes = ladder 0 (readRows bytes)
 
--- T-02, T-03: what 26 bytes mean
+-- T-03: the slot of place k
 abbrev pub slotAt : List ℕ → ℕ → Slot
 slotAt bytes k = slotIn (codedAt bytes k)
 
+-- T-02, T-03: what 26 bytes mean
 unfoldable pub telegramOf : List ℕ → Telegram
 telegramOf bytes =
     record {
@@ -80,10 +86,11 @@ telegramOf bytes =
       slots = slotAt bytes 0 ∷ slotAt bytes 1 ∷ slotAt bytes 2 ∷ slotAt bytes 3 ∷ [];
     }
 
--- what stands beside a refusal
+-- C-02: what stands beside a refusal
 abbrev pub blank : Telegram
 blank = record { packet = 0; step = 0; slots = emptySlot ∷ emptySlot ∷ emptySlot ∷ emptySlot ∷ [] }
 
+-- M-1b, M-2b: the verdict of reading, and the telegram
 unfoldable pub readOf : List ℕ → Reading
 readOf bytes = record { verdict = verdictOf (readRefusal bytes); telegram = cond (eqb (readRefusal bytes) 0) (telegramOf bytes) blank }
 
@@ -102,12 +109,14 @@ bytesOf t = wordBytes (headOf (t .packet) (t .step)) ++ each (sixAt (t .slots)) 
 abbrev pub writeRows : ℕ → ℕ → List (Bool × ℕ)
 writeRows packet room = (not (leb 3 packet && leb packet 7), 9) ∷ (not (eqb room 26), 10) ∷ []
 
+-- R-19, R-23: the first of these rows that holds, or 0
 abbrev pub writeRefusal : ℕ → ℕ → ℕ
 writeRefusal packet room = ladder 0 (writeRows packet room)
 
+-- M-1c: the verdict of writing
 unfoldable pub writeVerdict : Telegram → List ℕ → Verdict
 writeVerdict t buffer = verdictOf (writeRefusal (t .packet) (length buffer))
 
--- R-25: a refused call changes no byte
+-- M-2a, R-25: the buffer afterwards; a refused call changes no byte
 unfoldable pub written : Telegram → List ℕ → List ℕ
 written t buffer = cond (eqb (writeRefusal (t .packet) (length buffer)) 0) (bytesOf t) buffer

@@ -1,4 +1,5 @@
 -- `four_of`: slot by slot.
+use native.Mathlib.Nat.{add-zero}
 use Rattle.telegram.specs.Tables.{fourOf}
 use borrow.Author.Needs.{needs}
 use Rattle.telegram.proofs.four_of.Statement.{statement}
@@ -30,7 +31,7 @@ slot-in-requires-4 c κs = search needs
 
 returns : tie.Need-returns
 unfolding fourOf
-returns c = simp (c .before .before .before .slot-in .ensures, c .before .before .slot-in2 .ensures, c .before .slot-in3 .ensures, c .slot-in4 .ensures, c .before .before .before .before .first-slot .ensures)
+returns c = simp (add-zero, c .before .before .before .slot-in .ensures, c .before .before .slot-in2 .ensures, c .before .slot-in3 .ensures, c .slot-in4 .ensures, c .before .before .before .before .first-slot .ensures)
 
 pub four-of-spec : {M : Type 1} → statement M
 four-of-spec =
