@@ -50,6 +50,12 @@ rows-say c (row12, (row13, (row6, u))) =
     let p : ltb 0 (c .number) ≡ true = above-zero (c .number) (eqb-false (c .number) 0 e) in
     inr (record { number = ltb-true 0 (c .number) p; kind = not-false _ (and-second _ _ row13 p); allowed = not-false _ row6 }))
 
+pub filled-silent : (c : Coded) → Filled c → Silent (slotRows c)
+unfolding slotRows
+filled-silent c f =
+    let n : eqb (c .number) 0 ≡ false = ne-eqb (c .number) 0 (omega (arith, f .number)) in
+    (rw n refl, (rw (f .kind, lt-ltb 0 (c .number) (f .number)) refl, (rw (f .allowed) refl, tt)))
+
 -- a type is 4, is 5, or is another
 by-kind : (P : ℕ → Type 0) (kind : ℕ) → P 4 → P 5 → (eqb kind 4 ≡ false → eqb kind 5 ≡ false → P kind) → P kind
 by-kind P kind four five other =

@@ -1,7 +1,9 @@
 pub mod Bytes
 pub mod Cases
 pub mod Each
+pub mod Fill
 pub mod Ladder
 pub mod Loops
+pub mod Maps
 pub mod Member
 pub mod Put

@@ -4,9 +4,9 @@ use mathlib.Core.Path.{_≡_, refl, sym, ap, _∙_}
 use mathlib.Core.Bool.{Bool, true, false}
 use lib.Dec.{eqb}
 use native.Mathlib.Omega.{arith}
-use borrow.Author.Tests.{eqb-true, eqb-false, eq-eqb, ne-eqb}
+use borrow.Author.Tests.{eqb-true, eqb-false, eq-eqb, ne-eqb, ltb-true, ltb-false}
 use native.Mathlib.Numerals.{add-one}
-use Rattle.kit.specs.Loops.{scan, fold, any, first}
+use Rattle.kit.specs.Loops.{scan, fold, any, first, find, found}
 use Rattle.kit.proofs.Cases.{on, clash, given}
 
 left-suc : (n k : ℕ) → k < n → n - k ≡ suc (n - (k + 1))
@@ -45,6 +45,40 @@ module _ {A : Type 0} (leaves : ℕ → Bool) (answer : ℕ → A) (other : A) w
   unfolding scan
   scan-none k zero none = refl
   scan-none k (suc n) none = rw (none k (omega arith) (omega arith)) (scan-none (k + 1) n (λ j a b. none j (omega arith) (omega arith)))
+
+-- what `find` answers: the lowest index at which the test holds, or n where it holds at none
+module _ (test : ℕ → Bool) where
+  abbrev from : ℕ → ℕ → ℕ → ℕ
+  from m k n = scan test (λ i. i) m k n
+
+  abbrev Lowest : ℕ → ℕ → ℕ → Type 0
+  Lowest m k at = (at ≤ m) × (at < m → test at ≡ true) × ((j : ℕ) → k ≤ j → j < at → test j ≡ false)
+
+  lowest : (m k n : ℕ) → k + n ≡ m → Lowest m k (from m k n)
+  unfolding scan
+  lowest m k zero e = (omega arith, λ h. absurd (omega arith), λ j p q. absurd (omega arith))
+  lowest m k (suc n) e =
+      on (test k)
+      (λ t. rw t (omega arith, λ h. t, λ j p q. absurd (omega arith)))
+      (λ t.
+      rw t
+      (given (lowest m (k + 1) n (omega arith))
+      (λ (a, b, c). (a, b, λ j p q. on (eqb k j) (λ same. rw (eqb-true k j same) at t) (λ other. c j (omega (arith, eqb-false k j other)) q)))))
+
+  pub find-most : (n : ℕ) → find test n ≤ n
+  find-most n = lowest n 0 n (omega arith) .0
+
+  pub find-before : (n j : ℕ) → j < find test n → test j ≡ false
+  find-before n j p = lowest n 0 n (omega arith) .2 j (omega arith) p
+
+  pub found-there : (n : ℕ) → found test n ≡ true → (find test n < n) × (test (find test n) ≡ true)
+  found-there n h = given (ltb-true (find test n) n h) (λ p. (p, lowest n 0 n (omega arith) .1 p))
+
+  pub found-none : (n j : ℕ) → found test n ≡ false → j < n → test j ≡ false
+  found-none n j h p = find-before n j (omega (arith, ltb-false (find test n) n h))
+
+  pub found-when : (n j : ℕ) → j < n → test j ≡ true → found test n ≡ true
+  found-when n j p t = on (found test n) (λ e. e) (λ e. absurd (clash t (found-none n j e p)))
 
 -- the turns of `first`, by whether a number is 0
 module _ (number : ℕ → ℕ) (n k : ℕ) (p : k < n) where

@@ -1,5 +1,6 @@
 pub mod Bytes
 pub mod Each
+pub mod Fill
 pub mod Ladder
 pub mod Loops
 pub mod Member

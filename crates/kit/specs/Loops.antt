@@ -1,7 +1,7 @@
 -- What a loop computes, as a recursion over its index, in the form that the loop itself has.
 use Prim.Native.Nat.{ℕ, zero, suc, _+_}
 use mathlib.Core.Bool.{Bool, true, false, cond, not}
-use lib.Dec.{eqb}
+use lib.Dec.{eqb, ltb}
 
 module _ {A : Type 0} where
   -- a loop that leaves early: of k, k + 1, and so on, n of them, the first at which `leaves` holds gives its answer; where none does, `other`
@@ -21,3 +21,11 @@ any test k n = scan test (λ i. true) false k n
 -- the first of number k, number (k + 1), and so on, n of them, that is not 0, or 0
 abbrev pub first : (ℕ → ℕ) → ℕ → ℕ → ℕ
 first number k n = scan (λ i. not (eqb (number i) 0)) number 0 k n
+
+-- the first of 0 to n - 1 at which the test holds, or n where it holds at none
+abbrev pub find : (ℕ → Bool) → ℕ → ℕ
+find test n = scan test (λ i. i) n 0 n
+
+-- whether there is one
+abbrev pub found : (ℕ → Bool) → ℕ → Bool
+found test n = ltb (find test n) n

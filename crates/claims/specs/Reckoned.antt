@@ -1,0 +1,100 @@
+-- "Reckoned by hand": the cases of document 01 as rows of one table, each what the definitions give beside what the paper says.
+use Prim.Native.Nat.{ℕ, zero, suc, _+_, _*_, _/_, _%_}
+use mathlib.Core.List.{List, [], _∷_, _++_, map}
+use lib.ListN.{replicate}
+use Rattle.kit.specs.Each.{each}
+use Rattle.orders.specs.Orders.{listRefusal}
+use Rattle.orders.specs.declared.Place.{Place}
+use Rattle.desk.specs.Desks.{rest, freshDesk}
+use Rattle.desk.specs.Runs.{run}
+
+-- ---- lists of orders, all of type 1
+
+-- the ten bytes of an order with this order number
+unfoldable pub order : ℕ → List ℕ
+order n = 0 ∷ 0 ∷ (n / 256) ∷ (n % 256) ∷ 1 ∷ 0 ∷ 0 ∷ 0 ∷ 0 ∷ 0 ∷ []
+
+-- a list of k orders, from this order number on
+unfoldable pub orders : ℕ → ℕ → List ℕ
+orders k n = each order n k
+
+-- so many steps of twenty wholly new orders, the newest step first
+unfoldable pub wholly-new : ℕ → List (List ℕ)
+wholly-new zero = []
+wholly-new (suc k) = orders 20 (k * 20 + 1) ∷ wholly-new k
+
+-- so many steps of one order that stays and nineteen new ones
+unfoldable pub one-stays : ℕ → List (List ℕ)
+one-stays zero = []
+one-stays (suc k) = (order 1 ++ orders 19 (k * 20 + 2)) ∷ one-stays k
+
+-- so many empty lists
+unfoldable pub empty : ℕ → List (List ℕ)
+empty k = replicate k []
+
+-- ---- what is looked at
+
+-- the numbers of the twenty slots after a run, 0 for an empty slot
+unfoldable pub numbers : List (List ℕ) → List ℕ
+numbers lists = map (λ (p : Place). p .slot .number) (run rest rest lists .places)
+
+-- k numbers from n on
+unfoldable pub from : ℕ → ℕ → List ℕ
+from zero n = []
+from (suc k) n = n ∷ from k (n + 1)
+
+-- one number in slot 0, and nothing else
+unfoldable pub alone : ℕ → List ℕ
+alone n = n ∷ replicate 19 0
+
+-- the refusal of a list by a fresh desk
+unfoldable pub refusal : List ℕ → List ℕ
+refusal list = listRefusal (freshDesk .places) list ∷ []
+
+-- P5: order 1 has number 1 and stays while others use up the numbers to 255. In step 15 it ends; that is f.
+unfoldable pub to-255 : List (List ℕ)
+to-255 = [] ∷ ((order 1 ++ orders 7 900) ∷ one-stays 13)
+
+-- A-05: number 1 ends in step 2; by step 13 the last number given is 255
+unfoldable pub before-the-wrap : List (List ℕ)
+before-the-wrap = orders 15 900 ∷ wholly-new 12
+
+-- ---- the table
+
+-- a row: what the definitions give, and what the paper says
+abbrev pub Row : Type 0
+Row = List ℕ × List ℕ
+
+-- P4: twenty wholly new orders every step: step 12 gives 221 to 240
+abbrev pub p4-12 : Row
+p4-12 = (numbers (wholly-new 12), from 20 221)
+
+-- P4: step 13 gives 241 to 255 and then 1 to 5
+abbrev pub p4-13 : Row
+p4-13 = (numbers (wholly-new 13), from 15 241 ++ from 5 1)
+
+-- P5: in step f + 7 number 1 is passed over
+abbrev pub p5-7 : Row
+p5-7 = (numbers (orders 1 1000 ∷ (empty 6 ++ to-255)), alone 2)
+
+-- P5: if the order comes in step f + 8 instead, it gets 1
+abbrev pub p5-8 : Row
+p5-8 = (numbers (orders 1 1000 ∷ (empty 7 ++ to-255)), alone 1)
+
+-- P5 after the wrap (A-05): number 1 ended in step 2, and in step 8,197 it is given
+abbrev pub p5-wrap : Row
+p5-wrap = (numbers (orders 1 1000 ∷ (empty 8183 ++ before-the-wrap)), alone 1)
+
+-- P6: length 205: refusal 1; length 210: refusal 2; length 0: accepted
+abbrev pub p6-205 : Row
+p6-205 = (refusal (replicate 205 0), 1 ∷ [])
+
+abbrev pub p6-210 : Row
+p6-210 = (refusal (replicate 210 0), 2 ∷ [])
+
+abbrev pub p6-0 : Row
+p6-0 = (refusal [], 0 ∷ [])
+
+-- C-10: all of them
+abbrev pub paper : List Row
+paper = p4-12 ∷ p4-13 ∷ p5-7 ∷ p5-8 ∷ p5-wrap ∷ p6-205 ∷ p6-210 ∷ p6-0 ∷ []

@@ -1,0 +1,94 @@
+-- `Desk::table`: the loop fills the array with the places' slots.
+use Prim.Native.Nat.{ℕ, _-_, _<_, _≤_}
+use mathlib.Core.List.{List, map}
+use mathlib.Core.Path.{_≡_, sym, _∙_}
+use lib.ListN.{length, getD, length-map}
+use native.Mathlib.Omega.{arith}
+use borrow.Author.Needs.{needs}
+use Rattle.kit.specs.Fill.{Filled}
+use Rattle.kit.proofs.Fill.{filled-none, filled-more, filled-all}
+use Rattle.kit.proofs.Maps.{map-at}
+use Rattle.condition.specs.Slots.{emptySlot}
+use Rattle.condition.specs.declared.slots.Slot.{Slot}
+use Rattle.orders.specs.Orders.{freePlace, slots}
+use Rattle.orders.specs.declared.Place.{Place}
+use Rattle.desk.specs.Desks.{tableOf}
+use Rattle.desk.proofs.Desk.table.Statement.{statement}
+use Rattle.desk.proofs.Desk.table.Tie as tie
+
+abbrev of : List Place → List Slot
+of places = map (λ (place : Place). place .slot) places
+
+long : (places : List Place) → length places ≡ slots → length (of places) ≡ slots
+long places twenty = length-map places (λ (place : Place). place .slot) ∙ twenty
+
+element : (places : List Place) (i : ℕ) → length places ≡ slots → i < slots → getD places i freePlace .slot ≡ getD (of places) i emptySlot
+element places i twenty p = sym (map-at (λ (place : Place). place .slot) places i freePlace emptySlot (omega (arith, twenty)))
+
+abbrev Inv-loop : tie.InvT-loop
+Inv-loop places table₀ i₀ table i = (i ≤ slots) × Filled emptySlot (of places) i table
+
+abbrev μ-loop : tie.MeasureT-loop
+μ-loop places table₀ i₀ table i = slots - i
+
+twenty : (start : tie.Start Inv-loop μ-loop) → length (start .args .self .places) ≡ slots
+twenty start = sym (length-map (start .args .self .places) _) ∙ start .good .0 .1 .1 .0 .1 .0 .1
+
+empty-requires : tie.Need-empty-requires Inv-loop μ-loop
+empty-requires c κs = search needs
+
+loop-holds : tie.Need-loop-holds Inv-loop μ-loop
+loop-holds c =
+    let start = c .before .before in
+    (search needs, filled-none (sym (long (start .args .self .places) (twenty start))))
+
+mul-place : tie.Need-mul-place Inv-loop μ-loop
+mul-place c = search needs
+
+array-copy-out-place : tie.Need-array-copy-out-place Inv-loop μ-loop
+array-copy-out-place c = search needs
+
+mul-table : tie.Need-mul-table Inv-loop μ-loop
+mul-table c = search needs
+
+array-set-from-table : tie.Need-array-set-from-table Inv-loop μ-loop
+array-set-from-table c = search needs
+
+add-i : tie.Need-add-i Inv-loop μ-loop
+add-i c = search needs
+
+loop-less : tie.Need-loop-less Inv-loop μ-loop
+loop-less c = search needs
+
+loop-again : tie.Need-loop-again Inv-loop μ-loop
+loop-again c =
+    let l = c .before .before .before .loop in
+    let start = c .before .before .before .before .before .before in
+    let places = start .args .self .places in
+    let p : l .i < slots = search needs in
+    (search needs, filled-more (omega (arith, long places (twenty start))) (l .inv .1) (element places (l .i) (twenty start) p))
+
+returns : tie.Need-returns Inv-loop μ-loop
+unfolding tableOf
+returns c =
+    let l = c .before .loop in
+    let start = c .before .before .before .before in
+    let past : slots ≤ l .i = search needs in
+    filled-all (omega (arith, long (start .args .self .places) (twenty start))) (l .inv .1)
+
+pub table-spec : {M : Type 1} → statement M
+table-spec =
+    tie.close
+    (tie.spec
+    Inv-loop
+    μ-loop
+    empty-requires
+    loop-holds
+    mul-place
+    array-copy-out-place
+    mul-table
+    array-set-from-table
+    add-i
+    loop-less
+    loop-again
+    returns)

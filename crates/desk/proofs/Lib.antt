@@ -1,0 +1,10 @@
+pub mod Endings
+pub mod Making
+pub mod Promises
+pub mod Resting
+pub mod Seating
+pub mod Staying
+pub mod Stepping
+pub mod Tables
+pub mod Tracing
+pub mod Turns

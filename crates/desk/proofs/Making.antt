@@ -1,0 +1,62 @@
+-- A desk that a making and earlier calls gave is the desk of a run of accepted lists, and so it is sound (READINGS 3.4).
+use Prim.Native.Nat.{ℕ}
+use mathlib.Core.Path.{_≡_, refl, sym, ap, _∙_, subst}
+use mathlib.Core.List.{List, [], _∷_, map}
+use lib.Dec.{eqb}
+use native.Mathlib.Omega.{arith}
+use borrow.Author.Tests.{eqb-true, eqb-false, ne-eqb}
+use Rattle.kit.proofs.Cases.{on}
+use Rattle.condition.specs.Verdicts.{verdictOf}
+use Rattle.condition.specs.declared.verdicts.Verdict.the-variants.{Accepted as accepted, Refused}
+use Rattle.orders.specs.Orders.{orderCount, listRefusal}
+use Rattle.orders.proofs.Lists.{fair}
+use Rattle.numbers.specs.Numbers.{isResting}
+use Rattle.desk.specs.declared.Desk.{Desk}
+use Rattle.desk.specs.Desks.{rest, freshDesk, acceptOf, Made, made, given}
+use Rattle.desk.specs.Runs.{freshWith, run, Accepted}
+use Rattle.desk.specs.Steps.{nextStep, keptPlace, endedNumbers, RoomForAll, stepOf}
+use Rattle.desk.proofs.Stepping.{Sound, next-room}
+use Rattle.desk.proofs.Tracing.{run-sound}
+
+module _ (figure : ℕ) (desk : Desk) (list : List ℕ) where
+  -- D-02: an accepted list makes a step
+  pub accepts : listRefusal (desk .places) list ≡ 0 → acceptOf figure desk list ≡ record { verdict = accepted; desk = stepOf figure desk list }
+  unfolding acceptOf verdictOf
+  accepts e = rw e refl
+
+  -- D-18, R-24: a refused one changes nothing, the rests included
+  pub refuses : (listRefusal (desk .places) list ≡ 0 → ⊥) → acceptOf figure desk list ≡ record { verdict = Refused (listRefusal (desk .places) list); desk = desk }
+  unfolding acceptOf verdictOf
+  refuses n = rw (ne-eqb (listRefusal (desk .places) list) 0 n) refl
+
+-- the base's fresh desk keeps eight rows
+fresh-base : freshDesk ≡ freshWith rest
+unfolding freshDesk freshWith
+fresh-base = refl
+
+-- the accepted lists of a desk that was made
+pub made-run : {desk : Desk} → Made desk → (h : List (List ℕ)) × Accepted rest rest h × (desk ≡ run rest rest h)
+unfolding run
+made-run made = ([], tt, fresh-base)
+made-run (given {desk} m list) = go (made-run m)
+  where
+    go : (h : List (List ℕ)) × Accepted rest rest h × (desk ≡ run rest rest h)
+        → (h : List (List ℕ)) × Accepted rest rest h × (acceptOf rest desk list .desk ≡ run rest rest h)
+    go (h, a, e) =
+        on (eqb (listRefusal (desk .places) list) 0)
+        (λ z.
+        let zero : listRefusal (desk .places) list ≡ 0 = eqb-true (listRefusal (desk .places) list) 0 z in
+        (list ∷ h, (subst (λ (d : Desk). listRefusal (d .places) list ≡ 0) e zero, a), ap (λ r. r .desk) (accepts rest desk list zero) ∙ ap (λ (d : Desk). stepOf rest d list) e))
+        (λ z. (h, a, ap (λ r. r .desk) (refuses rest desk list (eqb-false (listRefusal (desk .places) list) 0 z)) ∙ e))
+
+pub made-sound : {desk : Desk} → Made desk → Sound rest desk
+made-sound m = go (made-run m)
+  where
+    go : {desk : Desk} → (h : List (List ℕ)) × Accepted rest rest h × (desk ≡ run rest rest h) → Sound rest desk
+    go (h, a, e) = subst (Sound rest) (sym e) (run-sound rest rest (omega arith) (omega arith) h a)
+
+-- D-08: so every new order of an accepted list finds a free slot
+pub room-made : {desk : Desk} → Made desk → (list : List ℕ) → listRefusal (desk .places) list ≡ 0
+    → RoomForAll (isResting rest (nextStep (desk .step)) (endedNumbers list (nextStep (desk .step)) (desk .places) (desk .ended))) list
+    (record { places = map (keptPlace list) (desk .places); last = desk .last }) (orderCount list)
+room-made {desk} m list e = next-room rest rest (omega arith) (omega arith) desk (made-sound m) list (fair (desk .places) list e)

@@ -1,0 +1,104 @@
+-- D-12 on the lists themselves: the numbers that rest are exactly those of the orders that ended in this step or in one of the
+-- rest - 1 accepted steps before. Nothing older looks as if it rested, however long the desk has run (A-05).
+use Prim.Native.Nat.{ℕ, zero, suc, _+_, _-_, _*_, _/_, _<_, _≤_}
+use mathlib.Core.Path.{_≡_, sym, ap, _∙_, subst}
+use mathlib.Core.Logic.{_↔_}
+use mathlib.Core.Bool.{true}
+use mathlib.Core.List.{List, [], _∷_}
+use lib.Dec.{ltb}
+use lib.ListN.{List·getD-eq-default}
+use native.Mathlib.Omega.{arith}
+use borrow.Author.Tests.{ltb-true, ltb-false}
+use Rattle.kit.proofs.Cases.{on, given}
+use Rattle.orders.specs.Orders.{slots}
+use Rattle.orders.proofs.Lists.{fair}
+use Rattle.numbers.specs.Numbers.{noneEnded, endedAt, isResting}
+use Rattle.numbers.specs.declared.Ended.{Ended}
+use Rattle.numbers.proofs.Search.{resting-some, resting-when}
+use Rattle.desk.specs.Runs.{run, Accepted, EndedAgo}
+use Rattle.desk.specs.Steps.{stays, nextStep}
+use Rattle.desk.proofs.Endings.{entry-stays, entry-ends, ended-now}
+use Rattle.desk.proofs.Seating.{ordered, inside}
+use Rattle.desk.proofs.Stepping.{Sound, rests, moves, next-ended}
+use Rattle.desk.proofs.Tracing.{at, run-sound, fresh-ended}
+
+module _ (rest rows : ℕ) (enough : rest ≤ rows) (few : rows ≤ 11) where
+  -- an entry in row k is of an order that ended k steps ago
+  pub entry-ended : (h : List (List ℕ)) (r x : ℕ) → Accepted rest rows h → 1 ≤ x → endedAt (run rest rows h .ended) r .number ≡ x → EndedAgo rest rows h x (r / slots)
+  unfolding run
+  entry-ended [] r x a p e = absurd (omega (arith, rw fresh-ended at e))
+  entry-ended (l ∷ h) r x (q, a) p e =
+      on (ltb r (slots * rows))
+      (λ small.
+      on (ltb r slots)
+      (λ first. new (ltb-true r slots first) (ltb-true r (slots * rows) small))
+      (λ later.
+      let back : slots + (r - slots) ≡ r = omega (arith, ltb-false r slots later) in
+      let row : suc ((r - slots) / slots) ≡ r / slots = omega (arith, ltb-false r slots later) in
+      subst (λ k. EndedAgo rest rows (l ∷ h) x k) row
+      (entry-ended h (r - slots) x a p
+      (ap (λ (y : Ended). y .number)
+      (sym (moves rest rows enough few (run rest rows h) (run-sound rest rows enough few h a) l (fair (run rest rows h .places) l q) (r - slots)
+      (omega (arith, ltb-true r (slots * rows) small, ltb-false r slots later))))
+      ∙ subst (λ k. endedAt (run rest rows (l ∷ h) .ended) k .number ≡ x) (sym back) e))))
+      (λ big.
+      absurd
+      (omega (
+        arith,
+        ap (λ (y : Ended). y .number)
+            (List·getD-eq-default (run rest rows (l ∷ h) .ended) noneEnded {n = r}
+            (omega (arith, ltb-false r (slots * rows) big, run-sound rest rows enough few (l ∷ h) (q, a) .kept))),
+      )))
+    where
+      s : Sound rows (run rest rows h)
+      s = run-sound rest rows enough few h a
+
+      new : r < slots → r < slots * rows → EndedAgo rest rows (l ∷ h) x (r / slots)
+      new small inside-rows =
+          let there =
+          ap (λ (es : List Ended). endedAt es r) (next-ended rest rows enough few (run rest rows h) s l (fair (run rest rows h .places) l q))
+          ∙ ended-now l (nextStep (run rest rows h .step)) (run rest rows h .places) (run rest rows h .ended) (s .orderly .twenty) r small (omega (arith, s .kept)) in
+          let row : 0 ≡ r / slots = omega arith in
+          on (stays l (at (run rest rows h) r))
+          (λ t. absurd (omega (arith, ap (λ (y : Ended). y .number) (there ∙ entry-stays l (at (run rest rows h) r) (nextStep (run rest rows h .step)) t))))
+          (λ t.
+          let number : at (run rest rows h) r .slot .number ≡ x =
+          sym (ap (λ (y : Ended). y .number) (there ∙ entry-ends l (at (run rest rows h) r) (nextStep (run rest rows h .step)) t)) ∙ e in
+          subst (λ k. EndedAgo rest rows (l ∷ h) x k) row (r, ordered (s .orderly) r (omega arith), number, t))
+
+  -- and of an order that ended k steps ago there is one in row k
+  pub ended-entry : (h : List (List ℕ)) (x k : ℕ) → Accepted rest rows h → k < rows → EndedAgo rest rows h x k
+      → (r : ℕ) × (r < slots * rows) × (r / slots ≡ k) × (endedAt (run rest rows h .ended) r .number ≡ x)
+  unfolding run
+  ended-entry [] x k a p e = absurd e
+  ended-entry (l ∷ h) x zero (q, a) p (i, named, number, absent) =
+      let s : Sound rows (run rest rows h) = run-sound rest rows enough few h a in
+      let small : i < slots = inside (s .orderly) i named in (
+        i,
+        omega arith,
+        omega arith,
+        rests rest rows enough few (run rest rows h) s l (fair (run rest rows h .places) l q) (omega arith) i named absent ∙ number,
+      )
+  ended-entry (l ∷ h) x (suc k) (q, a) p e =
+      given (ended-entry h x k a (omega arith) e)
+      (λ (r, small, row, number). (
+        slots + r,
+        omega arith,
+        omega arith,
+        ap (λ (y : Ended). y .number) (moves rest rows enough few (run rest rows h) (run-sound rest rows enough few h a) l (fair (run rest rows h .places) l q) r (omega arith)) ∙ number,
+      ))
+
+  -- D-12: a number rests exactly when an order that had it ended in this step or in one of the rest - 1 before
+  pub resting-exactly : (h : List (List ℕ)) (x : ℕ) → Accepted rest rows h → 1 ≤ x
+      → (isResting rest (run rest rows h .step) (run rest rows h .ended) x ≡ true) ↔ ((k : ℕ) × (k < rest) × EndedAgo rest rows h x k)
+  resting-exactly h x a p =
+      let s : Sound rows (run rest rows h) = run-sound rest rows enough few h a in (
+        λ e.
+            given (resting-some rest (run rest rows h .step) (run rest rows h .ended) x e)
+            (λ (r, small, number, young).
+            (r / slots, omega (arith, s .aged r (omega arith) .1), entry-ended h r x a p number)),
+        λ (k, young, e).
+            given (ended-entry h x k a (omega arith) e)
+            (λ (r, small, row, number).
+            resting-when rest (run rest rows h .step) (run rest rows h .ended) x r (omega (arith, s .kept)) number (omega (arith, s .aged r (omega arith) .1))),
+      )

@@ -1,0 +1,132 @@
+-- Who stays and who ends in a step. An order that stays keeps its slot, its number and its type, and takes the list's words; the
+-- places of the others are free. The places that this leaves are as orderly as those before.
+use Prim.Native.Nat.{ℕ, _-_, _<_, _≤_}
+use mathlib.Core.Path.{_≡_, refl, sym, ap, _∙_, subst}
+use mathlib.Core.Logic.{_⊎_, inl, inr}
+use mathlib.Core.Bool.{true}
+use mathlib.Core.List.{List, map}
+use lib.Dec.{eqb}
+use lib.ListN.{length-map}
+use native.Mathlib.Omega.{arith}
+use borrow.Author.Tests.{eqb-true, not-false}
+use Rattle.kit.proofs.Cases.{on, and-second}
+use Rattle.condition.specs.Slots.{codedOf, Held}
+use Rattle.condition.specs.declared.slots.Coded.{Coded}
+use Rattle.condition.proofs.Coding.{filled-silent, read-held, coded-back}
+use Rattle.orders.specs.Orders.{orderAt, orderCount, listedAt, isListed, freePlace, placeAt, placeOf, isLive, isRetyped}
+use Rattle.orders.specs.declared.Place.{Place}
+use Rattle.orders.proofs.Lists.{Fair, listed-there, live-when}
+use Rattle.desk.specs.Steps.{stays, bodyIn, keptPlace}
+use Rattle.desk.proofs.Endings.{kept-stays, kept-ends, kept-at}
+use Rattle.desk.proofs.Seating.{Orderly, inside, live-at}
+
+module _ {places : List Place} (o : Orderly places) {list : List ℕ} (fair : Fair places list) where
+  -- what a place is whose order stays: slot, number and type are as before, and the words are the list's (D-07)
+  pub record Stayed (i : ℕ) (place : Place) : Type 0 where
+    pub was : 1 ≤ placeAt places i .order
+    pub listed : isListed list (orderCount list) (placeAt places i .order) ≡ true
+    pub order : place .order ≡ placeAt places i .order
+    pub number : place .slot .number ≡ placeAt places i .slot .number
+    pub body : place .slot .body ≡ bodyIn (orderAt list (listedAt list (orderCount list) (placeAt places i .order)))
+    pub kind : codedOf (place .slot) .kind ≡ codedOf (placeAt places i .slot) .kind
+    pub held : Held (place .slot)
+
+  module _ (i : ℕ) (listed : isListed list (orderCount list) (placeAt places i .order) ≡ true) where
+    abbrev entry : ℕ
+    entry = listedAt list (orderCount list) (placeAt places i .order)
+
+    there : (entry < orderCount list) × (orderAt list entry .number ≡ placeAt places i .order)
+    there = listed-there list (orderCount list) (placeAt places i .order) listed
+
+    positive : 1 ≤ placeAt places i .order
+    positive = omega (arith, there .1, fair .named entry (there .0))
+
+    abbrev coded : Coded
+    coded =
+        record {
+          number = placeAt places i .slot .number;
+          kind = orderAt list entry .kind;
+          first = orderAt list entry .first;
+          second = orderAt list entry .second;
+        }
+
+    coded-held : Held (record { number = placeAt places i .slot .number; body = bodyIn (orderAt list entry) })
+    coded-held =
+        read-held coded
+        (filled-silent coded
+        (record { number = o .numbered i positive .0; kind = fair .typed entry (there .0); allowed = fair .allowed entry (there .0) }))
+
+    -- refusal 8: its type is the one that it had
+    same-kind : codedOf (record { number = placeAt places i .slot .number; body = bodyIn (orderAt list entry) }) .kind ≡ codedOf (placeAt places i .slot) .kind
+    unfolding isRetyped
+    same-kind =
+        ap (λ (c : Coded). c .kind)
+        (coded-back coded
+        (filled-silent coded
+        (record { number = o .numbered i positive .0; kind = fair .typed entry (there .0); allowed = fair .allowed entry (there .0) })))
+        ∙ sym
+        (eqb-true (codedOf (placeAt places i .slot) .kind) (orderAt list entry .kind)
+        (subst (λ k. eqb (codedOf (placeAt places k .slot) .kind) (orderAt list entry .kind) ≡ true) at-i
+        (not-false _
+        (and-second (isLive places (orderAt list entry .number)) _ (fair .same-type entry (there .0))
+        (subst (λ n. isLive places n ≡ true) (sym (there .1)) (live-when places (placeAt places i .order) i (inside o i positive) refl))))))
+      where
+        at-i : placeOf places (orderAt list entry .number) ≡ i
+        at-i = ap (placeOf places) (there .1) ∙ live-at o i positive
+
+    pub stayed : Stayed i (keptPlace list (placeAt places i))
+    stayed =
+        subst (λ (x : Place). Stayed i x) (sym (kept-stays list (placeAt places i) listed))
+        (record { was = positive; listed = listed; order = refl; number = refl; body = refl; kind = same-kind; held = coded-held })
+
+  abbrev kept : List Place
+  kept = map (keptPlace list) places
+
+  abbrev Case : ℕ → Type 0
+  Case i = Stayed i (placeAt kept i) ⊎ (placeAt kept i ≡ freePlace)
+
+  pub case : (i : ℕ) → Case i
+  case i =
+      on (stays list (placeAt places i))
+      (λ e. inl (subst (λ (x : Place). Stayed i x) (sym (kept-at fair places i)) (stayed i e)))
+      (λ e. inr (kept-at fair places i ∙ kept-ends list (placeAt places i) e))
+
+  kept-free : (i : ℕ) → Case i → placeAt kept i .order ≡ 0 → placeAt kept i ≡ freePlace
+  kept-free i (inl s) z = absurd (omega (arith, s .order, s .was))
+  kept-free i (inr e) z = e
+
+  kept-numbered : (i : ℕ) → Case i → 1 ≤ placeAt kept i .order → (1 ≤ placeAt kept i .slot .number) × (placeAt kept i .slot .number ≤ 255)
+  kept-numbered i (inl s) p = rw (s .number) (o .numbered i (s .was))
+  kept-numbered i (inr e) p = absurd (omega (arith, rw e at p))
+
+  kept-apart : (i j : ℕ) → Case i → Case j → 1 ≤ placeAt kept i .slot .number → placeAt kept i .slot .number ≡ placeAt kept j .slot .number → i ≡ j
+  kept-apart i j (inl s) (inl t) p q = o .apart i j (omega (arith, s .number)) (rw (s .number, t .number) at q)
+  kept-apart i j (inl s) (inr e) p q = absurd (omega (arith, rw e at q))
+  kept-apart i j (inr e) t p q = absurd (omega (arith, rw e at p))
+
+  kept-single : (i j : ℕ) → Case i → Case j → 1 ≤ placeAt kept i .order → placeAt kept i .order ≡ placeAt kept j .order → i ≡ j
+  kept-single i j (inl s) (inl t) p q = o .single i j (s .was) (rw (s .order, t .order) at q)
+  kept-single i j (inl s) (inr e) p q = absurd (omega (arith, rw e at q))
+  kept-single i j (inr e) t p q = absurd (omega (arith, rw e at p))
+
+  kept-held : (i : ℕ) → Case i → Held (placeAt kept i .slot)
+  kept-held i (inl s) = s .held
+  kept-held i (inr e) = rw e refl
+
+  pub kept-orderly : Orderly kept
+  kept-orderly =
+      record {
+        twenty = length-map places (keptPlace list) ∙ o .twenty;
+        free = λ i. kept-free i (case i);
+        numbered = λ i. kept-numbered i (case i);
+        apart = λ i j. kept-apart i j (case i) (case j);
+        single = λ i j. kept-single i j (case i) (case j);
+        held = λ i. kept-held i (case i);
+      }
+
+  pub kept-listed : (i : ℕ) → 1 ≤ placeAt kept i .order → isListed list (orderCount list) (placeAt kept i .order) ≡ true
+  kept-listed i p = go (case i) p
+    where
+      go : Case i → 1 ≤ placeAt kept i .order → isListed list (orderCount list) (placeAt kept i .order) ≡ true
+      go (inl s) p = rw (s .order) (s .listed)
+      go (inr e) p = absurd (omega (arith, rw e at p))

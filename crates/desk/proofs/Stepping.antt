@@ -1,0 +1,207 @@
+-- One step of a sound desk: the desk after it is sound, and each of its places is one that stayed, a new one, or free.
+--
+-- Proved over a rest of 1 to 11 steps and over as many rows of twenty ended numbers as the desk keeps: as many as the rest, or more.
+use Prim.Native.Nat.{ℕ, _+_, _-_, _*_, _/_, _<_, _≤_}
+use mathlib.Core.Path.{_≡_, refl, sym, ap, _∙_, subst}
+use mathlib.Core.Logic.{_⊎_, inl, inr}
+use mathlib.Core.Bool.{true, false, not}
+use mathlib.Core.List.{List, map}
+use lib.Dec.{ltb}
+use lib.ListN.{length, length-map, List·getD-eq-default}
+use native.Mathlib.Omega.{arith}
+use borrow.Author.Tests.{ltb-true, ltb-false}
+use Rattle.kit.proofs.Cases.{on, clash, given}
+use Rattle.condition.specs.Steps.{steps, gapOf}
+use Rattle.orders.specs.Orders.{orderAt, orderCount, listedAt, isListed, freePlace, placeAt, placeOf, isLive, slots}
+use Rattle.orders.specs.declared.Place.{Place}
+use Rattle.orders.proofs.Lists.{Fair, listed-there, listed-when, live-there}
+use Rattle.numbers.specs.Numbers.{noneEnded, endedAt, isResting}
+use Rattle.numbers.specs.declared.Ended.{Ended}
+use Rattle.numbers.proofs.Search.{covers-resting, resting-when}
+use Rattle.desk.specs.Steps.{nextStep, stays, keptPlace, endedNumbers, seatedAll, stepOf, RoomForAll}
+use Rattle.desk.specs.declared.Desk.{Desk}
+use Rattle.desk.proofs.Endings.{kept-stays, entry-stays, entry-ends, kept-at, ended-long, ended-now, ended-before}
+use Rattle.desk.proofs.Seating.{Orderly, inside, New, After, after, room-for-all}
+use Rattle.desk.proofs.Staying.{Stayed, case, kept-orderly, kept-listed}
+
+-- what is true of a desk that was made (READINGS 3.4, d1 to d6): an entry of the ended numbers in row k, from 0, ended k steps ago
+pub record Sound (rows : ℕ) (desk : Desk) : Type 0 where
+  pub orderly : Orderly (desk .places)
+  pub kept : length (desk .ended) ≡ slots * rows
+  pub below : desk .step < steps
+  pub aged : (r : ℕ) → 1 ≤ endedAt (desk .ended) r .number
+      → (endedAt (desk .ended) r .step < steps) × (gapOf (desk .step) (endedAt (desk .ended) r .step) ≡ r / slots)
+
+gap-same : (s : ℕ) → s < steps → gapOf s s ≡ 0
+unfolding gapOf
+gap-same s p = omega arith
+
+gap-next : (s e k : ℕ) → s < steps → e < steps → k < 100 → gapOf s e ≡ k → gapOf (nextStep s) e ≡ k + 1
+unfolding gapOf
+gap-next s e k p q r h = omega arith
+
+-- ---- the step
+
+module _ (rest rows : ℕ) (enough : rest ≤ rows) (few : rows ≤ 11) (desk : Desk) (sound : Sound rows desk) (list : List ℕ) (fair : Fair (desk .places) list) where
+  abbrev now : ℕ
+  now = nextStep (desk .step)
+
+  abbrev ended : List Ended
+  ended = endedNumbers list now (desk .places) (desk .ended)
+
+  abbrev next : Desk
+  next = stepOf rest desk list
+
+  abbrev bar : List ℕ
+  bar = map (λ (e : Ended). e .number) ended
+
+  bar-few : length bar ≤ 220
+  bar-few =
+      let e : length bar ≡ slots * rows = length-map ended (λ (e : Ended). e .number) ∙ (ended-long list now (desk .places) (desk .ended) (sound .orderly .twenty) ∙ sound .kept) in
+      omega arith
+
+  -- a new order's place
+  abbrev pub Placed : ℕ → Place → Type 0
+  Placed i place = New (isResting rest now ended) list (map (keptPlace list) (desk .places)) i place
+
+  placing : After (isResting rest now ended) bar (covers-resting rest now ended) bar-few list fair (map (keptPlace list) (desk .places))
+      (kept-orderly (sound .orderly) fair) (kept-listed (sound .orderly) fair)
+      (seatedAll (isResting rest now ended) list (record { places = map (keptPlace list) (desk .places); last = desk .last }) (orderCount list))
+      (orderCount list)
+  placing =
+      after (isResting rest now ended) bar (covers-resting rest now ended) bar-few list fair (map (keptPlace list) (desk .places))
+      (kept-orderly (sound .orderly) fair) (kept-listed (sound .orderly) fair) (desk .last) (orderCount list) (omega arith)
+
+  -- D-08: every new order finds a free slot when its turn comes
+  pub next-room : RoomForAll (isResting rest now ended) list (record { places = map (keptPlace list) (desk .places); last = desk .last }) (orderCount list)
+  next-room =
+      room-for-all (isResting rest now ended) bar (covers-resting rest now ended) bar-few list fair (map (keptPlace list) (desk .places))
+      (kept-orderly (sound .orderly) fair) (kept-listed (sound .orderly) fair) (desk .last)
+
+  pub next-orderly : Orderly (next .places)
+  unfolding stepOf
+  next-orderly = placing .orderly
+
+  pub next-ended : next .ended ≡ ended
+  unfolding stepOf
+  next-ended = refl
+
+  pub next-step : next .step ≡ now
+  unfolding stepOf
+  next-step = refl
+
+  -- ---- what each place is after the step
+
+  pub data Was (i : ℕ) (place : Place) : Type 0 where
+    stayed : Stayed (sound .orderly) fair i place → Was i place
+    placed : Placed i place → Was i place
+    free : place ≡ freePlace → Was i place
+
+  pub was : (i : ℕ) → Was i (placeAt (next .places) i)
+  unfolding stepOf
+  was i = go (placing .grown i) (case (sound .orderly) fair i)
+    where
+      go : (placeAt (next .places) i ≡ placeAt (map (keptPlace list) (desk .places)) i) ⊎ Placed i (placeAt (next .places) i)
+          → Stayed (sound .orderly) fair i (placeAt (map (keptPlace list) (desk .places)) i) ⊎ (placeAt (map (keptPlace list) (desk .places)) i ≡ freePlace)
+          → Was i (placeAt (next .places) i)
+      go (inl e) (inl s) = stayed (rw e s)
+      go (inl e) (inr f) = free (e ∙ f)
+      go (inr n) c = placed n
+
+  -- D-07: an order present keeps its slot, number and type and takes the new words
+  pub keeps : (i : ℕ) → 1 ≤ placeAt (desk .places) i .order → isListed list (orderCount list) (placeAt (desk .places) i .order) ≡ true
+      → Stayed (sound .orderly) fair i (placeAt (next .places) i)
+  unfolding stepOf
+  keeps i p listed = go (placing .grown i) (case (sound .orderly) fair i)
+    where
+      here : placeAt (map (keptPlace list) (desk .places)) i .order ≡ placeAt (desk .places) i .order
+      here = ap (λ (x : Place). x .order) (kept-at fair (desk .places) i ∙ kept-stays list (placeAt (desk .places) i) listed)
+
+      go : (placeAt (next .places) i ≡ placeAt (map (keptPlace list) (desk .places)) i) ⊎ Placed i (placeAt (next .places) i)
+          → Stayed (sound .orderly) fair i (placeAt (map (keptPlace list) (desk .places)) i) ⊎ (placeAt (map (keptPlace list) (desk .places)) i ≡ freePlace)
+          → Stayed (sound .orderly) fair i (placeAt (next .places) i)
+      go (inl e) (inl s) = rw e s
+      go (inl e) (inr f) = absurd (omega (arith, here, ap (λ (x : Place). x .order) f))
+      go (inr n) c = absurd (omega (arith, here, ap (λ (x : Place). x .order) (n .was)))
+
+  live : (k : ℕ) → k < orderCount list → isLive (next .places) (orderAt list k .number) ≡ true
+  unfolding stepOf
+  live k q = placing .live k q
+
+  -- D-06, D-08: the live orders are exactly the list's
+  pub live-listed : (o : ℕ) → 1 ≤ o → isLive (next .places) o ≡ isListed list (orderCount list) o
+  live-listed o p =
+      on (isListed list (orderCount list) o)
+      (λ e. given (listed-there list (orderCount list) o e) (λ (q, same). subst (λ n. isLive (next .places) n ≡ true) same (live (listedAt list (orderCount list) o) q) ∙ sym e))
+      (λ e.
+      on (isLive (next .places) o)
+      (λ f. given (live-there (next .places) o f) (λ (q, same). absurd (clash (subst (λ n. isListed list (orderCount list) n ≡ true) same (from (placeOf (next .places) o) (was (placeOf (next .places) o)) (omega (arith, same)))) e)))
+      (λ f. f ∙ sym e))
+    where
+      from : (i : ℕ) → Was i (placeAt (next .places) i) → 1 ≤ placeAt (next .places) i .order → isListed list (orderCount list) (placeAt (next .places) i .order) ≡ true
+      from i (stayed s) q = rw (s .order) (s .listed)
+      from i (placed n) q = listed-when list (orderCount list) (placeAt (next .places) i .order) (n .entry) (n .inlist) (sym (n .order))
+      from i (free e) q = absurd (omega (arith, rw e at q))
+
+  -- ---- ended numbers
+
+  long : length ended ≡ slots * rows
+  long = ended-long list now (desk .places) (desk .ended) (sound .orderly .twenty) ∙ sound .kept
+
+  -- D-06: the number of an absent order is the one of its slot in the first row
+  pub rests : 1 ≤ rows → (i : ℕ) → 1 ≤ placeAt (desk .places) i .order → isListed list (orderCount list) (placeAt (desk .places) i .order) ≡ false
+      → endedAt (next .ended) i .number ≡ placeAt (desk .places) i .slot .number
+  rests some i p absent =
+      ap (λ (l : List Ended). endedAt l i .number) next-ended
+      ∙ (ap (λ (e : Ended). e .number)
+      (ended-now list now (desk .places) (desk .ended) (sound .orderly .twenty) i (inside (sound .orderly) i p) (omega (arith, inside (sound .orderly) i p, sound .kept))
+      ∙ entry-ends list (placeAt (desk .places) i) now absent))
+
+  -- the others move on by a row
+  pub moves : (r : ℕ) → slots + r < slots * rows → endedAt (next .ended) (slots + r) ≡ endedAt (desk .ended) r
+  moves r p =
+      ap (λ (l : List Ended). endedAt l (slots + r)) next-ended ∙ ended-before list now (desk .places) (desk .ended) (sound .orderly .twenty) r (omega (arith, sound .kept))
+
+  next-aged : (r : ℕ) → 1 ≤ endedAt ended r .number → (endedAt ended r .step < steps) × (gapOf now (endedAt ended r .step) ≡ r / slots)
+  next-aged r p =
+      on (ltb r (slots * rows))
+      (λ small.
+      on (ltb r slots)
+      (λ first. fresh (ltb-true r slots first) (ltb-true r (slots * rows) small))
+      (λ later.
+      let e : slots + (r - slots) ≡ r = omega (arith, ltb-false r slots later) in
+      subst (λ k. (endedAt ended k .step < steps) × (gapOf now (endedAt ended k .step) ≡ k / slots)) e
+      (older (r - slots) (omega (arith, ltb-true r (slots * rows) small, ltb-false r slots later)) (subst (λ k. 1 ≤ endedAt ended k .number) (sym e) p))))
+      (λ big. absurd (omega (arith, ap (λ (e : Ended). e .number) (List·getD-eq-default ended noneEnded {n = r} (omega (arith, long, ltb-false r (slots * rows) big))))))
+    where
+      fresh : r < slots → r < slots * rows → (endedAt ended r .step < steps) × (gapOf now (endedAt ended r .step) ≡ r / slots)
+      fresh a b =
+          let q = ended-now list now (desk .places) (desk .ended) (sound .orderly .twenty) r a (omega (arith, sound .kept)) in
+          on (stays list (placeAt (desk .places) r))
+          (λ e. absurd (omega (arith, ap (λ (x : Ended). x .number) (q ∙ entry-stays list (placeAt (desk .places) r) now e))))
+          (λ e.
+          let same : endedAt ended r .step ≡ now = ap (λ (x : Ended). x .step) (q ∙ entry-ends list (placeAt (desk .places) r) now e) in
+          rw same (omega arith, gap-same now (omega arith) ∙ omega arith))
+
+      older : (q : ℕ) → slots + q < slots * rows → 1 ≤ endedAt ended (slots + q) .number
+          → (endedAt ended (slots + q) .step < steps) × (gapOf now (endedAt ended (slots + q) .step) ≡ (slots + q) / slots)
+      older q a b =
+          let e = ended-before list now (desk .places) (desk .ended) (sound .orderly .twenty) q (omega (arith, sound .kept)) in
+          given (sound .aged q (rw e at b))
+          (λ (small, age). rw e (small, gap-next (desk .step) (endedAt (desk .ended) q .step) (q / slots) (sound .below) small (omega arith) age ∙ omega arith))
+
+  pub next-sound : Sound rows next
+  next-sound =
+      record {
+        orderly = next-orderly;
+        kept = ap length next-ended ∙ long;
+        below = rw next-step (omega arith);
+        aged = λ r. rw (next-ended, next-step) (next-aged r);
+      }
+
+  -- D-12: a number that is in one of the first rows, as many as the rest, is not given
+  pub not-given : (i r x : ℕ) → 1 ≤ x → r < slots * rest → endedAt (next .ended) r .number ≡ x → Placed i (placeAt (next .places) i) → placeAt (next .places) i .slot .number ≡ x → ⊥
+  not-given i r x p small there n same =
+      let here : endedAt ended r .number ≡ x = ap (λ (l : List Ended). endedAt l r .number) (sym next-ended) ∙ there in
+      let young : gapOf now (endedAt ended r .step) < rest = omega (arith, next-aged r (omega arith) .1) in
+      clash (resting-when rest now ended x r (omega (arith, long)) here young) (subst (λ k. isResting rest now ended k ≡ false) same (n .rested))

@@ -1,0 +1,49 @@
+-- M-2d: what a sound desk writes is read back. Its slots are held and their numbers differ, so each of its five packets can be sent.
+use Prim.Native.Nat.{ℕ, _+_, _/_, _%_, _<_, _≤_}
+use mathlib.Core.Path.{_≡_, sym, ap, _∙_, subst}
+use lib.ListN.{getD, List·getD-map}
+use native.Mathlib.Omega.{arith}
+use Rattle.condition.specs.Slots.{emptySlot, Held}
+use Rattle.condition.specs.declared.slots.Slot.{Slot}
+use Rattle.condition.specs.declared.verdicts.Verdict.the-variants.{Accepted}
+use Rattle.telegram.specs.Sendable.{Sendable}
+use Rattle.telegram.specs.Telegrams.{readOf, bytesOf}
+use Rattle.telegram.proofs.Carried.{table-sendable, slot-carried}
+use Rattle.telegram.proofs.ReadAgain.{read-again}
+use Rattle.orders.specs.Orders.{freePlace, placeAt}
+use Rattle.orders.specs.declared.Place.{Place}
+use Rattle.desk.specs.Desks.{tableOf, telegramOf}
+use Rattle.desk.specs.declared.Desk.{Desk}
+use Rattle.desk.proofs.Stepping.{Sound}
+
+-- slot i of the table is that of place i
+pub table-at : (desk : Desk) (i : ℕ) → getD (tableOf desk) i emptySlot ≡ placeAt (desk .places) i .slot
+unfolding tableOf
+table-at desk i = List·getD-map (λ (place : Place). place .slot) (desk .places) i freePlace
+
+module _ {rows : ℕ} {desk : Desk} (sound : Sound rows desk) where
+  table-held : (i : ℕ) → Held (getD (tableOf desk) i emptySlot)
+  table-held i = subst Held (sym (table-at desk i)) (sound .orderly .held i)
+
+  table-distinct : (i j : ℕ) → i < j → 0 < getD (tableOf desk) i emptySlot .number
+      → getD (tableOf desk) i emptySlot .number ≡ getD (tableOf desk) j emptySlot .number → ⊥
+  table-distinct i j p positive same =
+      let e : i ≡ j = sound .orderly .apart i j (subst (λ (x : Slot). 0 < x .number) (table-at desk i) positive)
+      (ap (λ (x : Slot). x .number) (sym (table-at desk i)) ∙ (same ∙ ap (λ (x : Slot). x .number) (table-at desk j))) in
+      omega arith
+
+  pub packet-sendable : (packet : ℕ) → 3 ≤ packet → packet ≤ 7 → Sendable (telegramOf desk packet)
+  unfolding telegramOf
+  packet-sendable packet low high = table-sendable (tableOf desk) table-held table-distinct packet (desk .step) low high (sound .below)
+
+  -- each of the five packets is accepted and read as it was meant
+  pub packet-read : (packet : ℕ) → 3 ≤ packet → packet ≤ 7 → readOf (bytesOf (telegramOf desk packet)) ≡ record { verdict = Accepted; telegram = telegramOf desk packet }
+  packet-read packet low high = read-again (telegramOf desk packet) (packet-sendable packet low high)
+
+  -- so every slot of the table is read back, at its place of its packet
+  pub slot-read : (i : ℕ) → i < 20
+      → getD (readOf (bytesOf (telegramOf desk (3 + i / 4))) .telegram .slots) (i % 4) emptySlot ≡ placeAt (desk .places) i .slot
+  unfolding telegramOf
+  slot-read i p =
+      ap (λ r. getD (r .telegram .slots) (i % 4) emptySlot) (packet-read (3 + i / 4) (omega arith) (slot-carried (tableOf desk) i p .0))
+      ∙ (slot-carried (tableOf desk) i p .1 ∙ table-at desk i)

@@ -1,0 +1,60 @@
+-- `advance`: who ends, who stays and who is new, one after another; the desk was made, so there is room for all.
+use Prim.Native.Nat.{ℕ, _<_}
+use mathlib.Core.List.{List, map}
+use mathlib.Core.Path.{_≡_, refl}
+use borrow.Author.Needs.{needs}
+use Rattle.condition.specs.Steps.{steps}
+use Rattle.orders.specs.Orders.{orderCount, listRefusal}
+use Rattle.orders.specs.declared.Place.{Place}
+use Rattle.orders.proofs.Lists.{fair-length}
+use Rattle.numbers.specs.Numbers.{isResting}
+use Rattle.numbers.specs.declared.Ended.{Ended}
+use Rattle.desk.specs.declared.Desk.{Desk}
+use Rattle.desk.specs.declared.arriving.Seats.{Seats}
+use Rattle.desk.specs.Desks.{rest, Made}
+use Rattle.desk.specs.Steps.{nextStep, keptPlace, endedNumbers, seatedAll, RoomForAll, stepOf}
+use Rattle.desk.proofs.Making.{made-sound, room-made}
+use Rattle.desk.proofs.advance.Statement.{statement}
+use Rattle.desk.proofs.advance.Tie as tie
+
+module _ (desk : Desk) (list : List ℕ) (ended : List Ended) (kept : List Place)
+    (e : ended ≡ endedNumbers list (nextStep (desk .step)) (desk .places) (desk .ended)) (k : kept ≡ map (keptPlace list) (desk .places)) where
+  abbrev start : Seats
+  start = record { places = kept; last = desk .last }
+
+  room : Made desk → listRefusal (desk .places) list ≡ 0 → RoomForAll (isResting rest (nextStep (desk .step)) ended) list start (orderCount list)
+  room m z = rw (e, k) (room-made m list z)
+
+  stepped : (seats : Seats) → seats ≡ seatedAll (isResting rest (nextStep (desk .step)) ended) list start (orderCount list)
+      → record { places = seats .places; ended = ended; last = seats .last; step = nextStep (desk .step) } ≡ stepOf rest desk list
+  unfolding stepOf
+  stepped seats s = rw (s, e, k) refl
+
+add-step : tie.Need-add-step
+add-step c =
+    let p : c .before .before .args .desk .step < steps = made-sound (c .before .before .pre .0) .below in
+    search needs
+
+ended-numbers-requires : tie.Need-ended-numbers-requires
+ended-numbers-requires c κs = let start = c .before .before .before .before in fair-length (start .args .desk .places) (start .args .list .now) (start .pre .1)
+
+kept-places-requires : tie.Need-kept-places-requires
+kept-places-requires c κs = let start = c .before .before .before .before .before in fair-length (start .args .desk .places) (start .args .list .now) (start .pre .1)
+
+seat-all-requires : tie.Need-seat-all-requires
+seat-all-requires c κs =
+    let start = c .before .before .before .before .before .before in
+    let a = start .args in (
+      fair-length (a .desk .places) (a .list .now) (start .pre .1),
+      room (a .desk) (a .list .now) _ _ (c .before .ended-numbers .ensures) (c .kept-places .ensures) (start .pre .0) (start .pre .1),
+    )
+
+returns : tie.Need-returns
+returns c =
+    let a = c .before .before .before .before .before .before .before .before .args in
+    stepped (a .desk) (a .list .now) _ _ (c .before .before .before .ended-numbers .ensures) (c .before .before .kept-places .ensures) _ (c .before .seat-all .ensures)
+
+pub advance-spec : {M : Type 1} → statement M
+advance-spec =
+    tie.close
+    (tie.spec add-step ended-numbers-requires kept-places-requires seat-all-requires returns)

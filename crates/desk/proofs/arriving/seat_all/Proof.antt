@@ -1,0 +1,86 @@
+-- `seat_all`: the loop is the fold, order by order, and each finds the room that the caller showed.
+use Prim.Native.Nat.{ℕ, _+_, _-_, _<_, _≤_}
+use mathlib.Core.Bool.{Bool}
+use mathlib.Core.List.{List}
+use mathlib.Core.Path.{_≡_, sym, ap, _∙_}
+use borrow.Author.Needs.{needs}
+use Rattle.kit.proofs.Loops.{fold-none, fold-turn}
+use Rattle.orders.specs.Orders.{orderAt, orderCount}
+use Rattle.orders.specs.declared.Order.{Order}
+use Rattle.numbers.specs.Numbers.{isResting}
+use Rattle.desk.specs.Desks.{rest}
+use Rattle.desk.specs.Steps.{seated, seatedAll, Room, RoomForAll}
+use Rattle.desk.specs.declared.arriving.Seats.{Seats}
+use Rattle.desk.proofs.arriving.seat_all.Statement.{statement}
+use Rattle.desk.proofs.arriving.seat_all.Tie as tie
+
+module _ (resting : ℕ → Bool) (list : List ℕ) (first : Seats) (j : ℕ) where
+  -- the order in hand finds the room that the caller showed of it
+  room : (order : Order) (seats : Seats) → RoomForAll resting list first (orderCount list) → j < orderCount list → order ≡ orderAt list j
+      → seats ≡ seatedAll resting list first j → Room order seats
+  room order seats all p e f = rw (e, f) (all j p)
+
+  turn : (order : Order) (seats next : Seats) → order ≡ orderAt list j → seats ≡ seatedAll resting list first j → next ≡ seated resting order seats
+      → next ≡ seatedAll resting list first (j + 1)
+  unfolding seatedAll
+  turn order seats next e f g = fold-turn (λ i. seated resting (orderAt list i)) first seats next j f (rw e at g)
+
+abbrev Inv-loop : tie.InvT-loop
+Inv-loop last ended step list n seats₀ j₀ seats j = (j ≤ n) × (seats ≡ seatedAll (isResting rest step ended) list seats₀ j)
+
+abbrev μ-loop : tie.MeasureT-loop
+μ-loop last ended step list n seats₀ j₀ seats j = n - j
+
+cast-n : tie.Need-cast-n Inv-loop μ-loop
+cast-n c = search needs
+
+loop-holds : tie.Need-loop-holds Inv-loop μ-loop
+unfolding seatedAll
+loop-holds c = (search needs, sym (fold-none _ _))
+
+order-at-requires : tie.Need-order-at-requires Inv-loop μ-loop
+order-at-requires c κs = search needs
+
+seat-requires : tie.Need-seat-requires Inv-loop μ-loop
+seat-requires c κs =
+    let l = c .before .before .loop in
+    let start = c .before .before .before .before in
+    let a = start .args in
+    let p : l .j < orderCount (a .list .now) = search needs in
+    room (isResting rest (a .step) (a .ended)) (a .list .now) (record { places = a .kept; last = a .last }) (l .j) _ _ (start .pre .1) p (c .order-at .ensures) (l .inv .1)
+
+add-j : tie.Need-add-j Inv-loop μ-loop
+add-j c = search needs
+
+loop-less : tie.Need-loop-less Inv-loop μ-loop
+loop-less c = search needs
+
+loop-again : tie.Need-loop-again Inv-loop μ-loop
+loop-again c =
+    let l = c .before .before .before .loop in
+    let a = c .before .before .before .before .before .args in (
+      search needs,
+      turn (isResting rest (a .step) (a .ended)) (a .list .now) (record { places = a .kept; last = a .last }) (l .j) _ _ _ (c .before .order-at .ensures) (l .inv .1) (c .seat .ensures),
+    )
+
+returns : tie.Need-returns Inv-loop μ-loop
+returns c =
+    let l = c .before .loop in
+    let a = c .before .before .before .args in
+    let e : l .j ≡ orderCount (a .list .now) = search needs in
+    l .inv .1 ∙ ap (seatedAll (isResting rest (a .step) (a .ended)) (a .list .now) (record { places = a .kept; last = a .last })) e
+
+pub seat-all-spec : {M : Type 1} → statement M
+seat-all-spec =
+    tie.close
+    (tie.spec
+    Inv-loop
+    μ-loop
+    cast-n
+    loop-holds
+    order-at-requires
+    seat-requires
+    add-j
+    loop-less
+    loop-again
+    returns)

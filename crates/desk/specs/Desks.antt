@@ -1,0 +1,43 @@
+-- The desk and its calls: document 01, "The list and the step" and "Refusal numbers".
+use Prim.Native.Nat.{ℕ}
+use mathlib.Core.Bool.{cond}
+use mathlib.Core.List.{List, map}
+use lib.Dec.{eqb}
+use lib.ListN.{replicate}
+use Rattle.condition.specs.Verdicts.{verdictOf}
+use Rattle.condition.specs.declared.slots.Slot.{Slot}
+use Rattle.telegram.specs.Tables.{fourOf}
+use Rattle.telegram.specs.declared.Telegram.{Telegram}
+use Rattle.orders.specs.Orders.{freePlace, slots, listRefusal}
+use Rattle.orders.specs.declared.Place.{Place}
+use Rattle.numbers.specs.Numbers.{noneEnded}
+use Rattle.desk.specs.declared.Desk.{Desk}
+use Rattle.desk.specs.declared.Answer.{Answer}
+use Rattle.desk.specs.Steps.{stepOf}
+
+-- D-12, D-13: eight tables in a row go without an ended number
+abbrev pub rest : ℕ
+rest = 8
+
+-- D-04, D-11: step 0, all slots empty, nothing ended and no number given
+unfoldable pub freshDesk : Desk
+freshDesk = record { places = replicate slots freePlace; ended = replicate 160 noneEnded; last = 0; step = 0 }
+
+-- M-1a, D-02, D-18: refused with the desk as it was, or accepted with the desk after the step
+unfoldable pub acceptOf : ℕ → Desk → List ℕ → Answer
+acceptOf rest desk list =
+    let refusal = listRefusal (desk .places) list in
+    record { verdict = verdictOf refusal; desk = cond (eqb refusal 0) (stepOf rest desk list) desk }
+
+-- W-03: the table
+unfoldable pub tableOf : Desk → List Slot
+tableOf desk = map (λ (place : Place). place .slot) (desk .places)
+
+-- T-01 to T-04: the telegram of a packet of the table
+unfoldable pub telegramOf : Desk → ℕ → Telegram
+telegramOf desk packet = record { packet = packet; step = desk .step; slots = fourOf (tableOf desk) packet }
+
+-- R-26: a desk that a making and earlier calls gave
+pub data Made : Desk → Type 0 where
+  made : Made freshDesk
+  given : {desk : Desk} → Made desk → (list : List ℕ) → Made (acceptOf rest desk list .desk)

@@ -1,0 +1,3 @@
+pub mod Desks
+pub mod Runs
+pub mod Steps

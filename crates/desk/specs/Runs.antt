@@ -1,0 +1,43 @@
+-- Runs of a desk: the accepted lists, the newest first. Theorems about several steps speak of runs; refused lists leave the desk
+-- as it is (D-18), so a run has none.
+use Prim.Native.Nat.{ℕ, zero, suc, _*_, _≤_}
+use mathlib.Core.Path.{_≡_}
+use mathlib.Core.Bool.{true, false}
+use mathlib.Core.List.{List, [], _∷_}
+use lib.ListN.{replicate}
+use Rattle.orders.specs.Orders.{orderCount, isListed, freePlace, placeAt, slots, listRefusal}
+use Rattle.numbers.specs.Numbers.{noneEnded}
+use Rattle.desk.specs.declared.Desk.{Desk}
+use Rattle.desk.specs.Steps.{stepOf}
+
+-- D-04: a fresh desk that keeps so many rows of ended numbers, twenty in each. The base's has eight.
+unfoldable pub freshWith : ℕ → Desk
+freshWith rows = record { places = replicate slots freePlace; ended = replicate (slots * rows) noneEnded; last = 0; step = 0 }
+
+-- D-02: the desk after these lists
+unfoldable pub run : ℕ → ℕ → List (List ℕ) → Desk
+run rest rows [] = freshWith rows
+run rest rows (list ∷ earlier) = stepOf rest (run rest rows earlier) list
+
+-- each of the lists is accepted when its turn comes
+abbrev pub Accepted : ℕ → ℕ → List (List ℕ) → Type 0
+Accepted rest rows [] = Unit
+Accepted rest rows (list ∷ earlier) = (listRefusal (run rest rows earlier .places) list ≡ 0) × Accepted rest rows earlier
+
+-- M-3c: an order stood in each of the lists
+abbrev pub Stood : ℕ → List (List ℕ) → Type 0
+Stood order [] = Unit
+Stood order (list ∷ earlier) = (isListed list (orderCount list) order ≡ true) × Stood order earlier
+
+-- M-3c, M-3d: an order stood in the newest of the lists; a fresh desk's table counts as an empty list
+abbrev pub InNewest : ℕ → List (List ℕ) → Type 0
+InNewest order [] = ⊥
+InNewest order (list ∷ earlier) = isListed list (orderCount list) order ≡ true
+
+-- D-12: an order that had the number ended so many steps before the newest one; 0 is the newest one itself
+abbrev pub EndedAgo : ℕ → ℕ → List (List ℕ) → ℕ → ℕ → Type 0
+EndedAgo rest rows [] number ago = ⊥
+EndedAgo rest rows (list ∷ earlier) number zero =
+    let before = run rest rows earlier .places in
+    (i : ℕ) × (1 ≤ placeAt before i .order) × (placeAt before i .slot .number ≡ number) × (isListed list (orderCount list) (placeAt before i .order) ≡ false)
+EndedAgo rest rows (list ∷ earlier) number (suc ago) = EndedAgo rest rows earlier number ago

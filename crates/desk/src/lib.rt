@@ -1,0 +1,124 @@
+// The desk: twenty places, the numbers that ended lately, the last number given and the step number. Each accepted list makes one
+// step: orders that are absent leave (leaving), new ones arrive (arriving). The table that stands after it is written as telegrams.
+mod arriving;
+mod leaving;
+
+use arriving::Seats;
+use condition::Slot;
+use condition::Verdict;
+use numbers::Ended;
+use orders::Place;
+use telegram::Telegram;
+ghost use mathlib.Core.Path.{_≡_};
+ghost use Rattle.telegram.specs.Telegrams.{writeVerdict, written};
+ghost use Rattle.orders.specs.Orders.{listRefusal};
+ghost use Rattle.desk.specs.Desks.{rest, freshDesk, acceptOf, tableOf, telegramOf, Made};
+ghost use Rattle.desk.specs.Steps.{stepOf};
+
+// The ended numbers stand by the step in which they ended, the newest first, and within a step by slot.
+pub struct Desk {
+    pub places: [Place; 20],
+    pub ended: [Ended; 160],
+    pub last: u8,
+    pub step: u16,
+}
+
+// Beside a refusal stands the desk as it was.
+pub struct Answer {
+    pub verdict: Verdict,
+    pub desk: Desk,
+}
+
+impl Desk {
+    // How many slots the table has.
+    pub const SLOTS: usize = orders::PLACES;
+
+    // For how many steps an ended number is not given, the one in which it ended among them.
+    pub const REST: u16 = 8;
+
+    // How many step numbers there are.
+    pub const STEPS: u16 = condition::STEPS;
+
+    // A desk at step 0 with all slots empty.
+    pub fn fresh() -> Self
+        ensures { λ r. ⌜ r ≡ freshDesk ⌝ }
+    {
+        let place = Place::free();
+        let none = Ended::none();
+        Desk {
+            places: [place; 20],
+            ended: [none; 160],
+            last: 0,
+            step: 0,
+        }
+    }
+
+    // Takes the whole list of orders now in force, any bytes of any length: one step, or a refusal that changes nothing.
+    pub fn accept(self, list: &[u8]) -> Answer
+        requires { ⌜ Made self ⌝ }
+        ensures { λ r. ⌜ r ≡ acceptOf rest self (now (list .entry)) ⌝ }
+    {
+        let places = self.places;
+        let refusal = orders::refusal_of(places, list);
+        if refusal != 0 {
+            return Answer {
+                verdict: Verdict::Refused(refusal),
+                desk: self,
+            };
+        }
+        Answer {
+            verdict: Verdict::Accepted,
+            desk: advance(self, list),
+        }
+    }
+
+    // The twenty slots.
+    pub fn table(self) -> [Slot; 20]
+        ensures { λ r. ⌜ r ≡ tableOf self ⌝ }
+    {
+        let places = self.places;
+        let mut table = [Slot::empty(); 20];
+        let mut i: usize = 0;
+        while i < Desk::SLOTS {
+            let place = places[i];
+            let slot = place.slot;
+            table[i] = slot;
+            i += 1;
+        }
+        table
+    }
+
+    // Writes one packet of the table into a buffer of any length, or refuses and leaves the buffer as it is.
+    pub fn write(self, packet: u8, buffer: &mut [u8]) -> Verdict
+        ensures { λ r. ⌜ (r ≡ writeVerdict (telegramOf self packet) (now (buffer .entry)))
+            × (now (buffer .exit) ≡ written (telegramOf self packet) (now (buffer .entry))) ⌝ }
+    {
+        let table = self.table();
+        let telegram = Telegram {
+            packet,
+            step: self.step,
+            slots: telegram::four_of(table, packet),
+        };
+        telegram_writer::write(telegram, buffer)
+    }
+}
+
+// The desk after an accepted list.
+fn advance(desk: Desk, list: &[u8]) -> Desk
+    requires { ⌜ Made desk × (listRefusal (desk .places) (now list) ≡ 0) ⌝ }
+    ensures { λ r. ⌜ r ≡ stepOf rest desk (now (list .entry)) ⌝ }
+{
+    let step = (desk.step + 1) % Desk::STEPS;
+    let before = desk.places;
+    let were = desk.ended;
+    let ended = leaving::ended_numbers(list, step, before, were);
+    let kept = leaving::kept_places(list, before);
+    let seats = arriving::seat_all(kept, desk.last, ended, step, list);
+    let places = seats.places;
+    Desk {
+        places,
+        ended,
+        last: seats.last,
+        step,
+    }
+}

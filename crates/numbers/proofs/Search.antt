@@ -1,0 +1,163 @@
+-- Which numbers rest, which a live order has, and that the search for the next one finds the first permitted number.
+--
+-- `permitted-exists` is what the search rests on (D-15): twenty numbers of places and at most 220 that may rest are fewer than 255,
+-- so of the 255 numbers after the last one given one is none of them.
+use Prim.Native.Nat.{ℕ, _+_, _<_, _≤_}
+use mathlib.Core.Path.{_≡_, refl, sym, _∙_, subst}
+use mathlib.Core.Bool.{Bool, true, false}
+use mathlib.Core.List.{List, _++_, map}
+use lib.Dec.{eqb, ltb}
+use lib.ListN.{length-map, length, length-append}
+use native.Mathlib.Omega.{arith}
+use borrow.Author.Tests.{eqb-true, eq-eqb, ltb-true, ltb-false, lt-ltb, not-true}
+use Rattle.kit.specs.Loops.{find}
+use Rattle.kit.specs.Member.{member}
+use Rattle.kit.proofs.Cases.{on, clash, given, or-neither, and-both}
+use Rattle.kit.proofs.Loops.{scan-at, find-before, found-there, found-when, any-none, any-some}
+use Rattle.kit.proofs.Member.{member-map, member-append, pigeonhole}
+use Rattle.condition.specs.Steps.{gapOf}
+use Rattle.orders.specs.Orders.{placeAt, slots, freePlace}
+use Rattle.orders.specs.declared.Place.{Place}
+use Rattle.numbers.specs.Numbers.{noneEnded, endedAt, restsBy, isResting, hasNumber, isPermitted, numberAfter, nextNumber}
+use Rattle.numbers.specs.declared.Ended.{Ended}
+
+-- ---- the numbers that rest (D-12)
+
+module _ (rest step n : ℕ) where
+  rests-when : (entry : Ended) → entry .number ≡ n → gapOf step (entry .step) < rest → restsBy rest step n entry ≡ true
+  unfolding restsBy
+  rests-when entry e p = rw (eq-eqb (entry .number) n e, lt-ltb (gapOf step (entry .step)) rest p) refl
+
+  rests-only : (entry : Ended) → restsBy rest step n entry ≡ true → (entry .number ≡ n) × (gapOf step (entry .step) < rest)
+  unfolding restsBy
+  rests-only entry h =
+      given (and-both (eqb (entry .number) n) (ltb (gapOf step (entry .step)) rest) h)
+      (λ (a, b). (eqb-true (entry .number) n a, ltb-true (gapOf step (entry .step)) rest b))
+
+pub resting-none : (rest step : ℕ) (ended : List Ended) (n : ℕ) → isResting rest step ended n ≡ false → (i : ℕ) → i < length ended
+    → restsBy rest step n (endedAt ended i) ≡ false
+unfolding isResting
+resting-none rest step ended n h i p = any-none (λ i. restsBy rest step n (endedAt ended i)) 0 (length ended) h i (omega arith) (omega arith)
+
+pub resting-when : (rest step : ℕ) (ended : List Ended) (n i : ℕ) → i < length ended → endedAt ended i .number ≡ n
+    → gapOf step (endedAt ended i .step) < rest → isResting rest step ended n ≡ true
+resting-when rest step ended n i p e q =
+    on (isResting rest step ended n)
+    (λ t. t)
+    (λ t. absurd (clash (rests-when rest step n (endedAt ended i) e q) (resting-none rest step ended n t i p)))
+
+pub resting-some : (rest step : ℕ) (ended : List Ended) (n : ℕ) → isResting rest step ended n ≡ true
+    → (i : ℕ) × (i < length ended) × (endedAt ended i .number ≡ n) × (gapOf step (endedAt ended i .step) < rest)
+unfolding isResting
+resting-some rest step ended n h =
+    given (any-some (λ i. restsBy rest step n (endedAt ended i)) 0 (length ended) h)
+    (λ (i, a, b, e). given (rests-only rest step n (endedAt ended i) e) (λ (same, near). (i, omega arith, same, near)))
+
+-- the numbers of the ended entries cover those that rest
+pub covers-resting : (rest step : ℕ) (ended : List Ended) (n : ℕ) → isResting rest step ended n ≡ true
+    → member n (map (λ (e : Ended). e .number) ended) ≡ true
+covers-resting rest step ended n h =
+    given (resting-some rest step ended n h)
+    (λ (i, p, same, near).
+    subst (λ (m : ℕ). member m (map (λ (e : Ended). e .number) ended) ≡ true) same (member-map (λ (e : Ended). e .number) noneEnded ended i p))
+
+-- ---- the numbers of live orders (D-12)
+
+pub number-none : (places : List Place) (n i : ℕ) → hasNumber places n ≡ false → i < slots → placeAt places i .slot .number ≡ n → ⊥
+unfolding hasNumber
+number-none places n i h p e =
+    clash (eq-eqb (placeAt places i .slot .number) n e)
+    (any-none (λ i. eqb (placeAt places i .slot .number) n) 0 slots h i (omega arith) (omega arith))
+
+pub number-when : (places : List Place) (n i : ℕ) → i < slots → placeAt places i .slot .number ≡ n → hasNumber places n ≡ true
+number-when places n i p e = on (hasNumber places n) (λ t. t) (λ t. absurd (number-none places n i t p e))
+
+pub number-some : (places : List Place) (n : ℕ) → hasNumber places n ≡ true → (i : ℕ) × (i < slots) × (placeAt places i .slot .number ≡ n)
+unfolding hasNumber
+number-some places n h =
+    given (any-some (λ i. eqb (placeAt places i .slot .number) n) 0 slots h)
+    (λ (i, a, b, e). (i, omega arith, eqb-true (placeAt places i .slot .number) n e))
+
+-- the numbers of twenty places cover those that live orders have
+abbrev placed : List Place → List ℕ
+placed places = map (λ (p : Place). p .slot .number) places
+
+covers-placed : (places : List Place) → length places ≡ slots → (n : ℕ) → hasNumber places n ≡ true → member n (placed places) ≡ true
+covers-placed places twenty n h =
+    given (number-some places n h)
+    (λ (i, p, same).
+    subst (λ (m : ℕ). member m (placed places) ≡ true) same (member-map (λ (p : Place). p .slot .number) freePlace places i (omega (arith, twenty))))
+
+-- ---- the search
+
+-- D-10, D-11: 255 numbers after the last one are all different
+after-injective : (last i j : ℕ) → i < 255 → j < 255 → numberAfter last i ≡ numberAfter last j → i ≡ j
+after-injective last i j p q e = omega arith
+
+module _ (resting : ℕ → Bool) (places : List Place) where
+  permitted-when : (n : ℕ) → hasNumber places n ≡ false → resting n ≡ false → isPermitted resting places n ≡ true
+  permitted-when n a b = rw (a, b) refl
+
+  permitted-only : (n : ℕ) → isPermitted resting places n ≡ true → (hasNumber places n ≡ false) × (resting n ≡ false)
+  permitted-only n h = given (and-both _ _ h) (λ (a, b). (not-true _ a, not-true _ b))
+
+  module _ (last : ℕ) where
+    -- D-09: the first permitted number after the last one given
+    pub number-first : (i : ℕ) → i < 255 → isPermitted resting places (numberAfter last i) ≡ true
+        → ((j : ℕ) → j < i → isPermitted resting places (numberAfter last j) ≡ false) → nextNumber resting places last ≡ numberAfter last i
+    unfolding nextNumber
+    number-first i p e before =
+        scan-at (λ others. isPermitted resting places (numberAfter last others)) (numberAfter last) 0 0 255 i (omega arith) (omega arith) e (λ j a b. before j b)
+
+    -- where one of the 255 is permitted, the search ends at one that is
+    search-ends : (i : ℕ) → i < 255 → isPermitted resting places (numberAfter last i) ≡ true
+        → (j : ℕ) × (isPermitted resting places (numberAfter last j) ≡ true) × (nextNumber resting places last ≡ numberAfter last j)
+    search-ends i p e =
+        let test : ℕ → Bool = λ others. isPermitted resting places (numberAfter last others) in
+        given (found-there test 255 (found-when test 255 i p e))
+        (λ (q, t). (find test 255, t, number-first (find test 255) q t (λ j r. find-before test 255 j r)))
+
+module _ (resting : ℕ → Bool) (kept : List ℕ) (covered : (n : ℕ) → resting n ≡ true → member n kept ≡ true) (few : length kept ≤ 220)
+    (places : List Place) (twenty : length places ≡ slots) (last : ℕ) where
+  -- D-15, A-07: there always is a permitted number
+  pub permitted-exists : (i : ℕ) × (i < 255) × (isPermitted resting places (numberAfter last i) ≡ true)
+  permitted-exists =
+      given
+      (pigeonhole (numberAfter last) 255 (after-injective last) (placed places ++ kept)
+      (omega (arith, length-append (placed places) kept, length-map places (λ (p : Place). p .slot .number), twenty, few)))
+      (λ (i, p, out).
+      let n : ℕ = numberAfter last i in
+      given (or-neither (member n (placed places)) (member n kept) (sym (member-append n (placed places) kept) ∙ out))
+      (λ (a, b). (
+        i,
+        p,
+        permitted-when resting places n
+            (on (hasNumber places n) (λ t. absurd (clash (covers-placed places twenty n t) a)) (λ t. t))
+            (on (resting n) (λ t. absurd (clash (covered n t) b)) (λ t. t)),
+      )))
+
+  -- .. so a search that has passed k others has not passed all
+  pub others-few : (k : ℕ) → ((j : ℕ) → j < k → isPermitted resting places (numberAfter last j) ≡ false) → k < 255
+  others-few k before =
+      given permitted-exists
+      (λ (i, p, e). on (ltb i k) (λ t. absurd (clash e (before i (ltb-true i k t)))) (λ t. omega (arith, ltb-false i k t)))
+
+  search-found : (j : ℕ) × (isPermitted resting places (numberAfter last j) ≡ true) × (nextNumber resting places last ≡ numberAfter last j)
+  search-found = given permitted-exists (λ (i, p, e). search-ends resting places last i p e)
+
+  -- D-09: the search finds it
+  pub number-permitted : isPermitted resting places (nextNumber resting places last) ≡ true
+  number-permitted =
+      given search-found (λ (j, t, e). subst (λ (n : ℕ). isPermitted resting places n ≡ true) (sym e) t)
+
+  -- D-10: a number from 1 to 255
+  pub number-range : (1 ≤ nextNumber resting places last) × (nextNumber resting places last ≤ 255)
+  number-range = given search-found (λ (j, t, e). (omega (arith, e), omega (arith, e)))
+
+  -- D-12: no live order has it, and it does not rest
+  pub number-idle : (i : ℕ) → i < slots → placeAt places i .slot .number ≡ nextNumber resting places last → ⊥
+  number-idle i p e =
+      number-none places (nextNumber resting places last) i (permitted-only resting places (nextNumber resting places last) number-permitted .0) p e
+
+  pub number-rested : resting (nextNumber resting places last) ≡ false
+  number-rested = permitted-only resting places (nextNumber resting places last) number-permitted .1

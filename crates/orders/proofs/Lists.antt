@@ -1,0 +1,107 @@
+-- What an accepted list of orders is, and what the two searches of a desk answer: that of a number in the list, and that of an
+-- order's place.
+use Prim.Native.Nat.{ℕ, _%_, _<_, _≤_}
+use mathlib.Core.Path.{_≡_, refl, sym}
+use mathlib.Core.Bool.{true, false}
+use mathlib.Core.List.{List}
+use lib.Dec.{eqb, ltb}
+use lib.ListN.{length}
+use native.Mathlib.Omega.{arith}
+use borrow.Author.Tests.{eqb-true, eqb-false, eq-eqb, ltb-true, ltb-false, not-false}
+use Rattle.kit.specs.Ladder.{Silent}
+use Rattle.kit.proofs.Cases.{on, given}
+use Rattle.kit.proofs.Ladder.{silent-each}
+use Rattle.kit.proofs.Loops.{find-before, found-there, found-none, found-when}
+use Rattle.condition.specs.Words.{isType, secondAllowed}
+use Rattle.orders.specs.Orders.{orderAt, orderCount, listedAt, isListed, slots, placeAt, placeOf, isLive, isRetyped, orderRows, listRows, listRefusal}
+use Rattle.orders.specs.declared.Place.{Place}
+use Rattle.orders.proofs.Rows.{list-accepted}
+
+-- ---- the search of a number in the list
+
+module _ (list : List ℕ) (n o : ℕ) where
+  pub listed-there : isListed list n o ≡ true → (listedAt list n o < n) × (orderAt list (listedAt list n o) .number ≡ o)
+  unfolding listedAt
+  listed-there h = given (found-there (λ j. eqb (orderAt list j .number) o) n h) (λ (p, e). (p, eqb-true _ o e))
+
+  pub listed-none : (j : ℕ) → isListed list n o ≡ false → j < n → orderAt list j .number ≡ o → ⊥
+  unfolding listedAt
+  listed-none j h p = eqb-false _ o (found-none (λ i. eqb (orderAt list i .number) o) n j h p)
+
+  pub listed-when : (j : ℕ) → j < n → orderAt list j .number ≡ o → isListed list n o ≡ true
+  unfolding listedAt
+  listed-when j p e = found-when (λ i. eqb (orderAt list i .number) o) n j p (eq-eqb _ o e)
+
+-- ---- the search of an order's place
+
+module _ (places : List Place) (o : ℕ) where
+  pub live-there : isLive places o ≡ true → (placeOf places o < slots) × (placeAt places (placeOf places o) .order ≡ o)
+  unfolding placeOf
+  live-there h = given (found-there (λ i. eqb (placeAt places i .order) o) slots h) (λ (p, e). (p, eqb-true _ o e))
+
+  pub live-none : (i : ℕ) → isLive places o ≡ false → i < slots → placeAt places i .order ≡ o → ⊥
+  unfolding placeOf
+  live-none i h p = eqb-false _ o (found-none (λ k. eqb (placeAt places k .order) o) slots i h p)
+
+  pub live-when : (i : ℕ) → i < slots → placeAt places i .order ≡ o → isLive places o ≡ true
+  unfolding placeOf
+  live-when i p e = found-when (λ k. eqb (placeAt places k .order) o) slots i p (eq-eqb _ o e)
+
+  pub live-lowest : (i : ℕ) → i < placeOf places o → placeAt places i .order ≡ o → ⊥
+  unfolding placeOf
+  live-lowest i p = eqb-false _ o (find-before (λ k. eqb (placeAt places k .order) o) slots i p)
+
+-- ---- an accepted list
+
+-- R-01 to R-08 of a list that is not refused
+pub record Fair (places : List Place) (list : List ℕ) : Type 0 where
+  pub whole : length list % 10 ≡ 0
+  pub short : orderCount list ≤ slots
+  pub named : (j : ℕ) → j < orderCount list → 1 ≤ orderAt list j .number
+  pub typed : (j : ℕ) → j < orderCount list → isType (orderAt list j .kind) ≡ true
+  pub plain : (j : ℕ) → j < orderCount list → orderAt list j .spare ≡ 0
+  pub allowed : (j : ℕ) → j < orderCount list → secondAllowed (orderAt list j .kind) (orderAt list j .first) (orderAt list j .second) ≡ true
+  pub distinct : (i j : ℕ) → i < j → j < orderCount list → orderAt list i .number ≡ orderAt list j .number → ⊥
+  pub same-type : (j : ℕ) → j < orderCount list → isRetyped places (orderAt list j) ≡ false
+
+module _ (places : List Place) (list : List ℕ) where
+  silent-length : Silent (listRows places list) → (length list % 10 ≡ 0) × (length list ≤ 200)
+  unfolding listRows
+  silent-length s = (eqb-true _ 0 (not-false _ (s .0)), ltb-false 200 (length list) (s .1 .0))
+
+  silent-order : Silent (listRows places list) → (j : ℕ) → j < orderCount list → Silent (orderRows places list j)
+  unfolding listRows
+  silent-order s j p = silent-each (orderRows places list) 0 (orderCount list) (s .1 .1) j (omega arith) (omega arith)
+
+  pub fair : listRefusal places list ≡ 0 → Fair places list
+  unfolding orderRows
+  fair e =
+      given (list-accepted places list .0 e)
+      (λ s.
+      record {
+        whole = silent-length s .0;
+        short = omega (arith, silent-length s .1);
+        named = λ j p. omega (arith, eqb-false (orderAt list j .number) 0 (silent-order s j p .0));
+        typed = λ j p. not-false _ (silent-order s j p .1 .0);
+        plain = λ j p. eqb-true _ 0 (not-false _ (silent-order s j p .1 .1 .0));
+        allowed = λ j p. not-false _ (silent-order s j p .1 .1 .1 .0);
+        distinct = λ i j p q same. listed-none list j (orderAt list j .number) i (silent-order s j q .1 .1 .1 .1 .0) p same;
+        same-type = λ j p. silent-order s j p .1 .1 .1 .1 .1 .0;
+      })
+
+  pub fair-length : listRefusal places list ≡ 0 → length list ≤ 200
+  fair-length e = silent-length (list-accepted places list .0 e) .1
+
+  -- the numbers of a fair list are distinct, so the search of one finds its own order
+  pub listed-self : (j : ℕ) → Fair places list → j < orderCount list → listedAt list (orderCount list) (orderAt list j .number) ≡ j
+  listed-self j f p =
+      let o : ℕ = orderAt list j .number in
+      let at : ℕ = listedAt list (orderCount list) o in
+      given (listed-there list (orderCount list) o (listed-when list (orderCount list) o j p refl))
+      (λ (below, same).
+      on (ltb at j)
+      (λ before. absurd (f .distinct at j (ltb-true at j before) p same))
+      (λ past.
+      on (ltb j at)
+      (λ after. absurd (f .distinct j at (ltb-true j at after) below (sym same)))
+      (λ here. omega (arith, ltb-false at j past, ltb-false j at here))))

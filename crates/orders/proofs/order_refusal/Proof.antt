@@ -1,0 +1,103 @@
+-- `order_refusal`: each answer by the tests that led to it, row by row of the ladder.
+use mathlib.Core.Path.{_≡_, sym, _∙_}
+use mathlib.Core.Bool.{cond, not}
+use borrow.Author.Needs.{needs}
+use borrow.Author.Tests.{eq-eqb, ne-eqb, lt-ltb, le-ltb, not-true, not-false}
+use Rattle.kit.specs.Ladder.{ladder}
+use Rattle.orders.specs.Orders.{isListed, isRetyped, orderRows}
+use Rattle.orders.proofs.order_refusal.Statement.{statement}
+use Rattle.orders.proofs.order_refusal.Tie as tie
+use Rattle.orders.proofs.order_refusal.Reads as reads
+use Rattle.orders.proofs.order_refusal.Lts as lts
+use Rattle.condition.proofs.is_kind.Reads as is-kind-reads
+use Rattle.condition.proofs.second_allowed.Reads as second-allowed-reads
+use Rattle.orders.proofs.is_retyped.Reads as is-retyped-reads
+use Rattle.orders.proofs.listed_at.Reads as listed-at-reads
+use Rattle.orders.proofs.order_at.Reads as order-at-reads
+
+order-at-requires : tie.Need-order-at-requires
+order-at-requires c κs = search needs
+
+returns : tie.Need-returns
+unfolding ladder orderRows
+returns c = simp (sym (c .before .before .order-at .ensures), eq-eqb _ _ (c .if1 .taken))
+
+is-kind-requires : tie.Need-is-kind-requires
+is-kind-requires c κs = search needs
+
+returns-2 : tie.Need-returns-2
+unfolding ladder orderRows
+returns-2 c =
+    simp (
+      sym (c .before .before .before .before .order-at .ensures),
+      ne-eqb _ _ (c .before .before .if1 .left),
+      sym (c .before .is-kind .ensures) ∙ not-true _ (c .if2 .taken),
+    )
+
+returns-3 : tie.Need-returns-3
+unfolding ladder orderRows
+returns-3 c =
+    simp (
+      sym (c .before .before .before .before .before .before .order-at .ensures),
+      ne-eqb _ _ (c .before .before .before .before .if1 .left),
+      sym (c .before .before .before .is-kind .ensures) ∙ not-false _ (c .before .before .if2 .left),
+      ne-eqb _ _ (c .if3 .taken),
+    )
+
+second-allowed-requires : tie.Need-second-allowed-requires
+second-allowed-requires c κs = search needs
+
+-- past row 5: the rows that are left
+passed : (c : lts.After-second-allowed (order-at-reads.Asked, order-at-reads.Learnt, is-kind-reads.Asked, is-kind-reads.Learnt, second-allowed-reads.Asked, second-allowed-reads.Learnt, listed-at-reads.Asked, listed-at-reads.Learnt, is-retyped-reads.Asked, is-retyped-reads.Learnt) reads.Pre reads.Post)
+    → let a = c .before .before .before .before .before .before .before .before .before .args in
+    let x = c .before .before .before .before .before .before .before .order-at .result in
+    ladder 0 (orderRows (a .places) (a .list .now) (a .j))
+    ≡ cond (not (c .second-allowed .result)) 6 (cond (isListed (a .list .now) (a .j) (x .number)) 7 (cond (isRetyped (a .places) x) 8 0))
+unfolding ladder orderRows
+passed c =
+    simp (
+      sym (c .before .before .before .before .before .before .before .order-at .ensures),
+      ne-eqb _ _ (c .before .before .before .before .before .if1 .left),
+      sym (c .before .before .before .before .is-kind .ensures) ∙ not-false _ (c .before .before .before .if2 .left),
+      eq-eqb _ _ (c .before .if3 .left),
+      sym (c .second-allowed .ensures),
+    )
+
+returns-4 : tie.Need-returns-4
+returns-4 c = sym (passed (c .before) ∙ simp (c .if4 .taken))
+
+listed-at-requires : tie.Need-listed-at-requires
+listed-at-requires c κs = search needs
+
+returns-5 : tie.Need-returns-5
+returns-5 c = sym (passed (c .before .before .before) ∙ simp (c .before .before .if4 .left, sym (c .before .listed-at .ensures), lt-ltb _ _ (c .if5 .taken)))
+
+is-retyped-requires : tie.Need-is-retyped-requires
+is-retyped-requires c κs = search needs
+
+returns-6 : tie.Need-returns-6
+returns-6 c =
+    let b = c .before .before in
+    sym (passed (b .before .before .before) ∙ simp (b .before .before .if4 .left, sym (b .before .listed-at .ensures), le-ltb _ _ (b .if5 .left), sym (c .before .is-retyped .ensures) ∙ c .if6 .taken))
+
+returns-7 : tie.Need-returns-7
+returns-7 c =
+    let b = c .before .before in
+    sym (passed (b .before .before .before) ∙ simp (b .before .before .if4 .left, sym (b .before .listed-at .ensures), le-ltb _ _ (b .if5 .left), sym (c .before .is-retyped .ensures) ∙ c .if6 .left))
+
+pub order-refusal-spec : {M : Type 1} → statement M
+order-refusal-spec =
+    tie.close
+    (tie.spec
+    order-at-requires
+    returns
+    is-kind-requires
+    returns-2
+    returns-3
+    second-allowed-requires
+    returns-4
+    listed-at-requires
+    returns-5
+    is-retyped-requires
+    returns-6
+    returns-7)
