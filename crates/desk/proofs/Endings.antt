@@ -1,11 +1,13 @@
 -- Who stays and who ends in a step: what becomes of a place, and where the numbers that ended stand.
-use Prim.Native.Nat.{ℕ, _+_, _<_}
+use Prim.Native.Nat.{ℕ, _+_, _<_, _≤_}
 use mathlib.Core.Path.{_≡_, refl, ap, _∙_, subst}
 use mathlib.Core.Bool.{true, false}
 use mathlib.Core.List.{List, _++_, map}
 use lib.ListN.{length, getD, length-append, length-map, length-take, List·getD-map, List·getD-append}
 use lib.Seq.{getD-take, getD-append-add}
 use native.Mathlib.Omega.{arith}
+use lib.Dec.{eqb}
+use borrow.Author.Tests.{eqb-false, ne-eqb}
 use Rattle.kit.proofs.Cases.{on, given}
 use Rattle.kit.proofs.Maps.{map-at}
 use Rattle.orders.specs.Orders.{orderAt, orderCount, listedAt, freePlace, placeAt, slots}
@@ -33,13 +35,22 @@ module _ (list : List ℕ) (place : Place) where
   unfolding keptPlace
   kept-ends e = rw e refl
 
-  pub entry-stays : (step : ℕ) → stays list place ≡ true → endedEntry list step place ≡ noneEnded
+  -- D-06: a live order absent has ended
+  pub entry-ends : (step : ℕ) → 1 ≤ place .order → stays list place ≡ false → endedEntry list step place ≡ record { number = place .slot .number; step = step }
   unfolding endedEntry
-  entry-stays step e = rw e refl
+  entry-ends step p e = rw (ne-eqb (place .order) 0 (omega arith), e) refl
 
-  pub entry-ends : (step : ℕ) → stays list place ≡ false → endedEntry list step place ≡ record { number = place .slot .number; step = step }
+  -- and only such a one puts a number among those that ended
+  pub entry-only : (step : ℕ) → 1 ≤ endedEntry list step place .number
+      → (1 ≤ place .order) × (stays list place ≡ false) × (endedEntry list step place ≡ record { number = place .slot .number; step = step })
   unfolding endedEntry
-  entry-ends step e = rw e refl
+  entry-only step p =
+      on (eqb (place .order) 0)
+      (λ e. absurd (omega (arith, rw e at p)))
+      (λ e.
+      on (stays list place)
+      (λ f. absurd (omega (arith, rw (e, f) at p)))
+      (λ f. (omega (arith, eqb-false (place .order) 0 e), f, rw (e, f) refl)))
 
 -- a list that is accepted has no order 0, so a free place has no order in it
 pub free-absent : {old : List Place} {list : List ℕ} → Fair old list → stays list freePlace ≡ false

@@ -12,7 +12,7 @@ use Rattle.orders.specs.Orders.{orderCount, listRefusal}
 use Rattle.orders.proofs.Lists.{fair}
 use Rattle.numbers.specs.Numbers.{isResting}
 use Rattle.desk.specs.declared.Desk.{Desk}
-use Rattle.desk.specs.Desks.{rest, freshDesk, acceptOf, Made, made, given}
+use Rattle.desk.specs.Desks.{rest, freshDesk, acceptOf, Made, made, called}
 use Rattle.desk.specs.Runs.{freshWith, run, Accepted}
 use Rattle.desk.specs.Steps.{nextStep, keptPlace, endedNumbers, RoomForAll, stepOf}
 use Rattle.desk.proofs.Stepping.{Sound, next-room}
@@ -38,7 +38,7 @@ fresh-base = refl
 pub made-run : {desk : Desk} → Made desk → (h : List (List ℕ)) × Accepted rest rest h × (desk ≡ run rest rest h)
 unfolding run
 made-run made = ([], tt, fresh-base)
-made-run (given {desk} m list) = go (made-run m)
+made-run (called {desk} m list) = go (made-run m)
   where
     go : (h : List (List ℕ)) × Accepted rest rest h × (desk ≡ run rest rest h)
         → (h : List (List ℕ)) × Accepted rest rest h × (acceptOf rest desk list .desk ≡ run rest rest h)

@@ -17,7 +17,7 @@ use Rattle.numbers.specs.declared.Ended.{Ended}
 use Rattle.numbers.proofs.Search.{resting-some, resting-when}
 use Rattle.desk.specs.Runs.{run, Accepted, EndedAgo}
 use Rattle.desk.specs.Steps.{stays, nextStep}
-use Rattle.desk.proofs.Endings.{entry-stays, entry-ends, ended-now}
+use Rattle.desk.proofs.Endings.{entry-only, ended-now}
 use Rattle.desk.proofs.Seating.{ordered, inside}
 use Rattle.desk.proofs.Stepping.{Sound, rests, moves, next-ended}
 use Rattle.desk.proofs.Tracing.{at, run-sound, fresh-ended}
@@ -59,12 +59,10 @@ module _ (rest rows : ℕ) (enough : rest ≤ rows) (few : rows ≤ 11) where
           ap (λ (es : List Ended). endedAt es r) (next-ended rest rows enough few (run rest rows h) s l (fair (run rest rows h .places) l q))
           ∙ ended-now l (nextStep (run rest rows h .step)) (run rest rows h .places) (run rest rows h .ended) (s .orderly .twenty) r small (omega (arith, s .kept)) in
           let row : 0 ≡ r / slots = omega arith in
-          on (stays l (at (run rest rows h) r))
-          (λ t. absurd (omega (arith, ap (λ (y : Ended). y .number) (there ∙ entry-stays l (at (run rest rows h) r) (nextStep (run rest rows h .step)) t))))
-          (λ t.
-          let number : at (run rest rows h) r .slot .number ≡ x =
-          sym (ap (λ (y : Ended). y .number) (there ∙ entry-ends l (at (run rest rows h) r) (nextStep (run rest rows h .step)) t)) ∙ e in
-          subst (λ k. EndedAgo rest rows (l ∷ h) x k) row (r, ordered (s .orderly) r (omega arith), number, t))
+          given
+          (entry-only l (at (run rest rows h) r) (nextStep (run rest rows h .step)) (omega (arith, ap (λ (y : Ended). y .number) there)))
+          (λ (named, absent, same).
+          subst (λ k. EndedAgo rest rows (l ∷ h) x k) row (r, named, sym (ap (λ (y : Ended). y .number) (there ∙ same)) ∙ e, absent))
 
   -- and of an order that ended k steps ago there is one in row k
   pub ended-entry : (h : List (List ℕ)) (x k : ℕ) → Accepted rest rows h → k < rows → EndedAgo rest rows h x k

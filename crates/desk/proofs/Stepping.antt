@@ -20,7 +20,7 @@ use Rattle.numbers.specs.declared.Ended.{Ended}
 use Rattle.numbers.proofs.Search.{covers-resting, resting-when}
 use Rattle.desk.specs.Steps.{nextStep, stays, keptPlace, endedNumbers, seatedAll, stepOf, RoomForAll}
 use Rattle.desk.specs.declared.Desk.{Desk}
-use Rattle.desk.proofs.Endings.{kept-stays, entry-stays, entry-ends, kept-at, ended-long, ended-now, ended-before}
+use Rattle.desk.proofs.Endings.{kept-stays, entry-only, entry-ends, kept-at, ended-long, ended-now, ended-before}
 use Rattle.desk.proofs.Seating.{Orderly, inside, New, After, after, room-for-all}
 use Rattle.desk.proofs.Staying.{Stayed, case, kept-orderly, kept-listed}
 
@@ -155,7 +155,7 @@ module _ (rest rows : ℕ) (enough : rest ≤ rows) (few : rows ≤ 11) (desk : 
       ap (λ (l : List Ended). endedAt l i .number) next-ended
       ∙ (ap (λ (e : Ended). e .number)
       (ended-now list now (desk .places) (desk .ended) (sound .orderly .twenty) i (inside (sound .orderly) i p) (omega (arith, inside (sound .orderly) i p, sound .kept))
-      ∙ entry-ends list (placeAt (desk .places) i) now absent))
+      ∙ entry-ends list (placeAt (desk .places) i) now p absent))
 
   -- the others move on by a row
   pub moves : (r : ℕ) → slots + r < slots * rows → endedAt (next .ended) (slots + r) ≡ endedAt (desk .ended) r
@@ -177,10 +177,9 @@ module _ (rest rows : ℕ) (enough : rest ≤ rows) (few : rows ≤ 11) (desk : 
       fresh : r < slots → r < slots * rows → (endedAt ended r .step < steps) × (gapOf now (endedAt ended r .step) ≡ r / slots)
       fresh a b =
           let q = ended-now list now (desk .places) (desk .ended) (sound .orderly .twenty) r a (omega (arith, sound .kept)) in
-          on (stays list (placeAt (desk .places) r))
-          (λ e. absurd (omega (arith, ap (λ (x : Ended). x .number) (q ∙ entry-stays list (placeAt (desk .places) r) now e))))
-          (λ e.
-          let same : endedAt ended r .step ≡ now = ap (λ (x : Ended). x .step) (q ∙ entry-ends list (placeAt (desk .places) r) now e) in
+          given (entry-only list (placeAt (desk .places) r) now (omega (arith, ap (λ (x : Ended). x .number) q)))
+          (λ (named, absent, e).
+          let same : endedAt ended r .step ≡ now = ap (λ (x : Ended). x .step) (q ∙ e) in
           rw same (omega arith, gap-same now (omega arith) ∙ omega arith))
 
       older : (q : ℕ) → slots + q < slots * rows → 1 ≤ endedAt ended (slots + q) .number

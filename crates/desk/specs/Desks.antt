@@ -40,4 +40,4 @@ telegramOf desk packet = record { packet = packet; step = desk .step; slots = fo
 -- R-26: a desk that a making and earlier calls gave
 pub data Made : Desk → Type 0 where
   made : Made freshDesk
-  given : {desk : Desk} → Made desk → (list : List ℕ) → Made (acceptOf rest desk list .desk)
+  called : {desk : Desk} → Made desk → (list : List ℕ) → Made (acceptOf rest desk list .desk)

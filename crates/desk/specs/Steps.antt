@@ -1,8 +1,9 @@
 -- The step that an accepted list makes: document 01, "The list and the step", its five points.
 use Prim.Native.Nat.{ℕ, _+_, _%_, _<_}
 use mathlib.Core.Path.{_≡_}
-use mathlib.Core.Bool.{Bool, false, cond}
+use mathlib.Core.Bool.{Bool, false, cond, not, _&&_}
 use mathlib.Core.List.{List, _++_, map}
+use lib.Dec.{eqb}
 use lib.ListN.{length, take, set}
 use Rattle.kit.specs.Loops.{fold}
 use Rattle.condition.specs.Slots.{bodyOf}
@@ -40,9 +41,13 @@ keptPlace list place =
     })
     freePlace
 
--- D-06: an order absent has ended, in this step
+-- D-06: a live order absent from the list has ended
+abbrev pub ends : List ℕ → Place → Bool
+ends list place = not (eqb (place .order) 0) && not (stays list place)
+
+-- D-06, D-12: its number, with the step in which it ended
 unfoldable pub endedEntry : List ℕ → ℕ → Place → Ended
-endedEntry list step place = cond (stays list place) noneEnded (record { number = place .slot .number; step = step })
+endedEntry list step place = cond (ends list place) (record { number = place .slot .number; step = step }) noneEnded
 
 -- A-05, A-40: the numbers that ended in this step stand in front, by slot, and the oldest twenty are dropped
 unfoldable pub endedNumbers : List ℕ → ℕ → List Place → List Ended → List Ended

@@ -50,6 +50,9 @@ fn ended_entry(list: &[u8], step: u16, place: Place) -> Ended
     requires { ⌜ length (now list) ≤ 200 ⌝ }
     ensures { λ r. ⌜ r ≡ endedEntry (now (list .entry)) step place ⌝ }
 {
+    if place.order == 0 {
+        return Ended::none();
+    }
     let n = (list.len() / orders::LENGTH) as u8;
     if orders::listed_at(list, n, place.order) < n {
         return Ended::none();
