@@ -16,9 +16,9 @@ use Rattle.numbers.specs.Numbers.{noneEnded, endedAt, isResting}
 use Rattle.numbers.specs.declared.Ended.{Ended}
 use Rattle.numbers.proofs.Search.{resting-some, resting-when}
 use Rattle.desk.specs.Runs.{run, Accepted, EndedAgo}
-use Rattle.desk.specs.Steps.{stays, nextStep}
+use Rattle.desk.specs.Steps.{nextStep}
 use Rattle.desk.proofs.Endings.{entry-only, ended-now}
-use Rattle.desk.proofs.Seating.{ordered, inside}
+use Rattle.desk.proofs.Seating.{inside}
 use Rattle.desk.proofs.Stepping.{Sound, rests, moves, next-ended}
 use Rattle.desk.proofs.Tracing.{at, run-sound, fresh-ended}
 

@@ -18,7 +18,7 @@ use Rattle.orders.proofs.Lists.{Fair, listed-there, listed-when, live-there}
 use Rattle.numbers.specs.Numbers.{noneEnded, endedAt, isResting}
 use Rattle.numbers.specs.declared.Ended.{Ended}
 use Rattle.numbers.proofs.Search.{covers-resting, resting-when}
-use Rattle.desk.specs.Steps.{nextStep, stays, keptPlace, endedNumbers, seatedAll, stepOf, RoomForAll}
+use Rattle.desk.specs.Steps.{nextStep, keptPlace, endedNumbers, seatedAll, stepOf, RoomForAll}
 use Rattle.desk.specs.declared.Desk.{Desk}
 use Rattle.desk.proofs.Endings.{kept-stays, entry-only, entry-ends, kept-at, ended-long, ended-now, ended-before}
 use Rattle.desk.proofs.Seating.{Orderly, inside, New, After, after, room-for-all}

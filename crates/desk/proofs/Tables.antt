@@ -1,13 +1,16 @@
 -- M-2d: what a sound desk writes is read back. Its slots are held and their numbers differ, so each of its five packets can be sent.
 use Prim.Native.Nat.{ℕ, _+_, _/_, _%_, _<_, _≤_}
-use mathlib.Core.Path.{_≡_, sym, ap, _∙_, subst}
-use lib.ListN.{getD, List·getD-map}
+use mathlib.Core.Path.{_≡_, refl, sym, ap, _∙_, subst}
+use mathlib.Core.List.{List}
+use lib.ListN.{length, getD, List·getD-map}
 use native.Mathlib.Omega.{arith}
+use borrow.Author.Tests.{le-leb, eq-eqb}
+use Rattle.kit.specs.Ladder.{ladder}
 use Rattle.condition.specs.Slots.{emptySlot, Held}
 use Rattle.condition.specs.declared.slots.Slot.{Slot}
 use Rattle.condition.specs.declared.verdicts.Verdict.the-variants.{Accepted}
 use Rattle.telegram.specs.Sendable.{Sendable}
-use Rattle.telegram.specs.Telegrams.{readOf, bytesOf}
+use Rattle.telegram.specs.Telegrams.{readOf, bytesOf, written}
 use Rattle.telegram.proofs.Carried.{table-sendable, slot-carried}
 use Rattle.telegram.proofs.ReadAgain.{read-again}
 use Rattle.orders.specs.Orders.{freePlace, placeAt}
@@ -47,3 +50,9 @@ module _ {rows : ℕ} {desk : Desk} (sound : Sound rows desk) where
   slot-read i p =
       ap (λ r. getD (r .telegram .slots) (i % 4) emptySlot) (packet-read (3 + i / 4) (omega arith) (slot-carried (tableOf desk) i p .0))
       ∙ (slot-carried (tableOf desk) i p .1 ∙ table-at desk i)
+
+-- M-2a: whatever a buffer of 26 bytes held, a packet that is asked for by its number fills it
+pub packet-written : (desk : Desk) (packet : ℕ) (buffer : List ℕ) → 3 ≤ packet → packet ≤ 7 → length buffer ≡ 26
+    → written (telegramOf desk packet) buffer ≡ bytesOf (telegramOf desk packet)
+unfolding written ladder telegramOf
+packet-written desk packet buffer low high long = rw (le-leb 3 packet low, le-leb packet 7 high, eq-eqb (length buffer) 26 long) refl

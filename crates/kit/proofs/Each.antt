@@ -1,12 +1,22 @@
 -- Laws of `each`, for parts that are all of one size: how long it is, and which part an index lies in.
 use Prim.Native.Nat.{ℕ, zero, suc, _+_, _*_, _<_}
 use mathlib.Core.Path.{_≡_, sym, ap, _∙_}
-use mathlib.Core.List.{List, _++_}
+use mathlib.Core.List.{List, _++_, append-nil, append-assoc}
 use lib.ListN.{length, getD, length-append, List·getD-append}
 use lib.Seq.{getD-append-add}
 use native.Mathlib.Omega.{arith}
 use native.Mathlib.Nat.{add-zero, zero-mul, suc-mul}
 use Rattle.kit.specs.Each.{each}
+
+-- one thing more, at the end
+pub each-more : {A : Type 0} (of : ℕ → List A) (k n : ℕ) → each of k (n + 1) ≡ each of k n ++ of (k + n)
+unfolding each
+each-more of k zero = append-nil (of k) ∙ ap of (sym (add-zero k))
+each-more of k (suc n) =
+    let e : k + 1 + n ≡ k + suc n = omega arith in
+    let f : suc n + 1 ≡ suc (n + 1) = omega arith in
+    ap (λ x. each of k x) f
+    ∙ (ap (λ l. of k ++ l) (each-more of (k + 1) n ∙ ap (λ x. each of (k + 1) n ++ of x) e) ∙ sym (append-assoc (of k) (each of (k + 1) n) (of (k + suc n))))
 
 module _ {A : Type 0} (of : ℕ → List A) (size : ℕ) (sized : (i : ℕ) → length (of i) ≡ size) where
   pub length-each : (k n : ℕ) → length (each of k n) ≡ n * size

@@ -1,12 +1,15 @@
 -- Laws of `Put`: one byte, one run after another, and a run that fills the buffer.
-use Prim.Native.Nat.{ℕ, suc, _+_, _≤_}
+use Prim.Native.Nat.{ℕ, suc, _+_, _<_, _≤_}
 use mathlib.Core.Path.{_≡_, refl, sym, ap, _∙_, subst}
 use mathlib.Core.List.{List, [], _∷_, _++_, append-nil}
-use lib.ListN.{length, drop, set, length-append, drop-of-length-le}
-use lib.Seq.{sets, sets-eq, length-sets}
+use lib.ListN.{length, take, drop, set, length-append, drop-of-length-le}
+use lib.Dec.{leb}
+use lib.Seq.{sets, sets-eq, length-sets, set-out, length-take-le}
 use native.Mathlib.Nat.{add-zero}
 use native.Mathlib.Omega.{arith}
-use Rattle.kit.specs.Put.{Put}
+use borrow.Author.Tests.{leb-true, leb-false}
+use Rattle.kit.specs.Put.{Put, Poured}
+use Rattle.kit.proofs.Cases.{on}
 
 sets-append : (l : List ℕ) (i : ℕ) (a b : List ℕ) → sets (sets l i a) (i + length a) b ≡ sets l i (a ++ b)
 sets-append l i [] b = ap (λ (k : ℕ). sets l k b) (add-zero i)
@@ -40,3 +43,55 @@ put-whole {l} {bytes} {m} h p =
     let room : 0 + length bytes ≤ length l = omega arith in
     let rest : drop (0 + length bytes) l ≡ [] = drop-of-length-le l {i = 0 + length bytes} (omega arith) in
     p .stored ∙ (sets-eq bytes l 0 room ∙ (ap (λ (r : List ℕ). bytes ++ r) rest ∙ append-nil bytes))
+
+-- ---- the same with a buffer's end
+
+-- past the end nothing is stored
+sets-out : (l : List ℕ) (i : ℕ) (bytes : List ℕ) → length l ≤ i → sets l i bytes ≡ l
+sets-out l i [] h = refl
+sets-out l i (x ∷ bytes) h = ap (λ (m : List ℕ). sets m (suc i) bytes) (set-out l i x h) ∙ sets-out l (suc i) bytes (omega arith)
+
+pub poured-none : (l : List ℕ) (i : ℕ) → i ≤ length l → Poured l i [] l i
+poured-none l i h = record { stored = refl; past = omega (arith, add-zero i) }
+
+pub poured-one : (l : List ℕ) (i byte : ℕ) → i < length l → Poured l i (byte ∷ []) (set l i byte) (i + 1)
+poured-one l i byte h = record { stored = refl; past = omega arith }
+
+pub poured-full : (l : List ℕ) (i : ℕ) (bytes : List ℕ) → length l ≤ i → Poured l i bytes l (length l)
+poured-full l i bytes h = record { stored = sym (sets-out l i bytes h); past = omega arith }
+
+pub poured-length : {l m : List ℕ} {i j : ℕ} {a : List ℕ} → Poured l i a m j → length m ≡ length l
+poured-length {l} {i = i} {a = a} p = ap length (p .stored) ∙ length-sets l i a
+
+pub poured-then : {l m n : List ℕ} {i j k : ℕ} {a b : List ℕ} → Poured l i a m j → Poured m j b n k → Poured l i (a ++ b) n k
+poured-then {l} {m} {n} {i} {j} {k} {a} {b} p q =
+    let long : length m ≡ length l = poured-length p in
+    record {
+      stored =
+          q .stored
+          ∙ (on (leb (i + length a) (length l))
+          (λ fits.
+          let e : j ≡ i + length a = omega (arith, p .past, leb-true (i + length a) (length l) fits) in
+          ap (λ (x : ℕ). sets m x b) e)
+          (λ full.
+          sets-out m j b (omega (arith, p .past, leb-false (i + length a) (length l) full))
+          ∙ sym (sets-out m (i + length a) b (omega (arith, leb-false (i + length a) (length l) full))))
+          ∙ (ap (λ (x : List ℕ). sets x (i + length a) b) (p .stored) ∙ sets-append l i a b));
+      past = let e = length-append a b in omega (arith, p .past, q .past, e, long);
+    }
+
+-- where something was poured, nothing more can be
+pub poured-here : {l m : List ℕ} {i j : ℕ} {a : List ℕ} → Poured l i a m j → Poured m j [] m j
+poured-here {l} {m} {i} {j} p = poured-none m j (omega (arith, p .past, poured-length p))
+
+-- the place past them counts bytes at the buffer's start
+pub poured-counts : {l m : List ℕ} {i j : ℕ} {a : List ℕ} → Poured l i a m j → j ≡ length (take j m)
+poured-counts {l} {m} {i} {j} p = sym (length-take-le j m (omega (arith, p .past, poured-length p)))
+
+-- the same bytes under another name
+pub poured-as : {l m : List ℕ} {i j : ℕ} {a b : List ℕ} → a ≡ b → Poured l i b m j → Poured l i a m j
+poured-as {l} {m} {i} {j} e p = subst (λ (bytes : List ℕ). Poured l i bytes m j) (sym e) p
+
+-- where there is room for all of them, all are put
+pub poured-put : {l m : List ℕ} {i j : ℕ} {a : List ℕ} → i + length a ≤ length l → Poured l i a m j → Put l i a m j
+poured-put room p = record { stored = p .stored; past = omega (arith, p .past) }

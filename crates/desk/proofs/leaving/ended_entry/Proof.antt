@@ -24,11 +24,11 @@ none-requires-2 c κs = search needs
 
 returns-2 : tie.Need-returns-2
 unfolding endedEntry
-returns-2 c = simp (sym (c .before .before .listed-at .ensures), lt-ltb _ _ (c .before .if2 .taken), ne-eqb _ _ (c  .before .before .before .if1 .left), c .none2 .ensures)
+returns-2 c = simp (sym (c .before .before .listed-at .ensures), lt-ltb _ _ (c .before .if2 .taken), ne-eqb _ _ (c .before .before .before .if1 .left), c .none2 .ensures)
 
 returns-3 : tie.Need-returns-3
 unfolding endedEntry
-returns-3 c = simp (sym (c .before .listed-at .ensures), le-ltb _ _ (c .if2 .left), ne-eqb _ _ (c  .before .before .if1 .left))
+returns-3 c = simp (sym (c .before .listed-at .ensures), le-ltb _ _ (c .if2 .left), ne-eqb _ _ (c .before .before .if1 .left))
 
 pub ended-entry-spec : {M : Type 1} → statement M
 ended-entry-spec =

@@ -1,0 +1,37 @@
+-- `put_packet`: the desk fills the 26 bytes, and they are put one after another.
+use Rattle.kit.proofs.Put.{poured-as}
+use mathlib.Core.Path.{sym, _∙_, refl}
+use Rattle.desk.proofs.Tables.{packet-written}
+use borrow.Author.Needs.{needs}
+use Rattle.desk_run.proofs.put_packet.Statement.{statement}
+use Rattle.desk_run.proofs.put_packet.Tie as tie
+
+slice-aggregate-write : tie.Need-slice-aggregate-write
+slice-aggregate-write c = search needs
+
+write-requires : tie.Need-write-requires
+write-requires c κs = search needs
+
+slice-aggregate-put-words : tie.Need-slice-aggregate-put-words
+slice-aggregate-put-words c = search needs
+
+put-words-requires : tie.Need-put-words-requires
+put-words-requires c κs = search needs
+
+same-length : tie.Need-same-length
+same-length c = search needs
+
+returns : tie.Need-returns
+returns c = let w = c .before .before .before .before .before .before .write .ensures .1 in let a = c .before .before .before .before .before .before .before .before .before in
+    poured-as (sym (w ∙ packet-written (a .args .desk) (a .args .packet) _ (a .pre .0) (a .pre .1) refl)) (c .before .before .put-words .ensures)
+
+pub put-packet-spec : {M : Type 1} → statement M
+put-packet-spec =
+    tie.close
+    (tie.spec
+    slice-aggregate-write
+    write-requires
+    slice-aggregate-put-words
+    put-words-requires
+    same-length
+    returns)

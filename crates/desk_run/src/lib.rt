@@ -1,0 +1,39 @@
+// What the program run_desk writes: the table of a desk as its five telegrams, and a line for each list that is refused.
+use desk::Desk;
+ghost use Prim.Native.Nat.{_≤_};
+ghost use Rattle.kit.specs.Put.{Poured};
+ghost use Rattle.telegram.specs.Telegrams.{bytesOf};
+ghost use Rattle.desk.specs.Desks.{telegramOf};
+ghost use Rattle.desk_run.specs.Outputs.{tableBytes, refusedLine};
+
+// One packet of the table.
+fn put_packet(desk: Desk, packet: u8, out: &mut [u8], at: usize) -> usize
+    requires { ⌜ (3 ≤ packet) × (packet ≤ 7) ⌝ }
+    ensures { λ r. ⌜ Poured (now (out .entry)) at (bytesOf (telegramOf desk packet)) (now (out .exit)) r ⌝ }
+{
+    let mut bytes = [0u8; 26];
+    desk.write(packet, &mut bytes);
+    text::put_words(out, at, &bytes)
+}
+
+// The table as five telegrams, packets 3 to 7: 130 bytes.
+pub fn put_table(desk: Desk, out: &mut [u8], at: usize) -> usize
+    ensures { λ r. ⌜ Poured (now (out .entry)) at (tableBytes desk) (now (out .exit)) r ⌝ }
+{
+    let fourth = put_packet(desk, 3, out, at);
+    let fifth = put_packet(desk, 4, out, fourth);
+    let sixth = put_packet(desk, 5, out, fifth);
+    let seventh = put_packet(desk, 6, out, sixth);
+    put_packet(desk, 7, out, seventh)
+}
+
+// `refused N at list I` and a line feed.
+pub fn put_refused(number: u8, list: u64, line: &mut [u8], at: usize) -> usize
+    ensures { λ r. ⌜ Poured (now (line .entry)) at (refusedLine number list) (now (line .exit)) r ⌝ }
+{
+    let first = text::put_words(line, at, b"refused ");
+    let second = text::put_decimal(line, first, number as u64);
+    let third = text::put_words(line, second, b" at list ");
+    let fourth = text::put_decimal(line, third, list);
+    text::put_byte(line, fourth, 10)
+}

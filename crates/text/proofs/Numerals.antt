@@ -1,0 +1,28 @@
+-- A number in decimal is its last digit after the decimal of its tenth, or that digit alone.
+use Prim.Native.Nat.{ℕ, zero, suc, _+_, _/_, _%_, _<_, _≤_}
+use mathlib.Core.Path.{_≡_, refl, ap, _∙_}
+use mathlib.Core.List.{[], _∷_, _++_}
+use lib.Dec.{ltb}
+use native.Mathlib.Omega.{arith}
+use borrow.Author.Tests.{lt-ltb, le-ltb, ltb-false}
+use Rattle.kit.proofs.Cases.{on}
+use Rattle.text.specs.Decimals.{digit, digits, decimal}
+
+-- as many digits as the number is large are always enough
+enough : (a b n : ℕ) → n ≤ a → n ≤ b → digits a n ≡ digits b n
+unfolding digits
+enough zero zero n p q = refl
+enough zero (suc b) n p q = rw (lt-ltb n 10 (omega arith)) refl
+enough (suc a) zero n p q = rw (lt-ltb n 10 (omega arith)) refl
+enough (suc a) (suc b) n p q =
+    on (ltb n 10) (λ e. rw e refl) (λ e. rw e (ap (λ l. l ++ digit n) (enough a b (n / 10) (omega (arith, ltb-false n 10 e)) (omega (arith, ltb-false n 10 e)))))
+
+pub decimal-one : (n : ℕ) → n < 10 → decimal n ≡ (48 + n) ∷ []
+unfolding decimal digits
+decimal-one n p =
+    let e : n % 10 ≡ n = omega arith in
+    enough n (suc n) n (omega arith) (omega arith) ∙ rw (lt-ltb n 10 p) (ap (λ d. (48 + d) ∷ []) e)
+
+pub decimal-more : (n : ℕ) → 10 ≤ n → decimal n ≡ decimal (n / 10) ++ digit n
+unfolding decimal digits
+decimal-more n p = enough n (suc n) n (omega arith) (omega arith) ∙ rw (le-ltb n 10 p) (ap (λ l. l ++ digit n) (enough n (n / 10) (n / 10) (omega arith) (omega arith)))
