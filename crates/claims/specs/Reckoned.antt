@@ -65,36 +65,24 @@ before-the-wrap = orders 15 900 ∷ wholly-new 12
 abbrev pub Row : Type 0
 Row = List ℕ × List ℕ
 
--- P4: twenty wholly new orders every step: step 12 gives 221 to 240
-abbrev pub p4-12 : Row
-p4-12 = (numbers (wholly-new 12), from 20 221)
-
--- P4: step 13 gives 241 to 255 and then 1 to 5
-abbrev pub p4-13 : Row
-p4-13 = (numbers (wholly-new 13), from 15 241 ++ from 5 1)
-
--- P5: in step f + 7 number 1 is passed over
-abbrev pub p5-7 : Row
-p5-7 = (numbers (orders 1 1000 ∷ (empty 6 ++ to-255)), alone 2)
-
--- P5: if the order comes in step f + 8 instead, it gets 1
-abbrev pub p5-8 : Row
-p5-8 = (numbers (orders 1 1000 ∷ (empty 7 ++ to-255)), alone 1)
-
 -- P5 after the wrap (A-05): number 1 ended in step 2, and in step 8,197 it is given
 abbrev pub p5-wrap : Row
 p5-wrap = (numbers (orders 1 1000 ∷ (empty 8183 ++ before-the-wrap)), alone 1)
 
--- P6: length 205: refusal 1; length 210: refusal 2; length 0: accepted
-abbrev pub p6-205 : Row
-p6-205 = (refusal (replicate 205 0), 1 ∷ [])
-
-abbrev pub p6-210 : Row
-p6-210 = (refusal (replicate 210 0), 2 ∷ [])
-
-abbrev pub p6-0 : Row
-p6-0 = (refusal [], 0 ∷ [])
+abbrev pub desk-rows : List Row
+desk-rows =
+    -- P4: twenty wholly new orders every step: step 12 gives 221 to 240, step 13 gives 241 to 255 and then 1 to 5
+    (numbers (wholly-new 12), from 20 221)
+    ∷ (numbers (wholly-new 13), from 15 241 ++ from 5 1)
+    -- P5: in step f + 7 number 1 is passed over; if the order comes in step f + 8 instead, it gets 1
+    ∷ (numbers (orders 1 1000 ∷ (empty 6 ++ to-255)), alone 2)
+    ∷ (numbers (orders 1 1000 ∷ (empty 7 ++ to-255)), alone 1)
+    -- P6: length 205: refusal 1; length 210: refusal 2; length 0: accepted
+    ∷ (refusal (replicate 205 0), 1 ∷ [])
+    ∷ (refusal (replicate 210 0), 2 ∷ [])
+    ∷ (refusal [], 0 ∷ [])
+    ∷ []
 
 -- C-10: all of them
 abbrev pub paper : List Row
-paper = p4-12 ∷ p4-13 ∷ p5-7 ∷ p5-8 ∷ p5-wrap ∷ p6-205 ∷ p6-210 ∷ p6-0 ∷ []
+paper = p5-wrap ∷ desk-rows
