@@ -10,7 +10,7 @@ use lib.Dec.{eqb}
 use borrow.Author.Tests.{eqb-false, ne-eqb}
 use Rattle.kit.proofs.Cases.{on, given}
 use Rattle.kit.proofs.Maps.{map-at}
-use Rattle.orders.specs.Orders.{orderAt, orderCount, listedAt, freePlace, placeAt, slots}
+use Rattle.orders.specs.Orders.{orderNamed, orderCount, listedAt, freePlace, placeAt, slots}
 use Rattle.orders.specs.declared.Place.{Place}
 use Rattle.orders.proofs.Lists.{Fair, listed-there}
 use Rattle.numbers.specs.Numbers.{noneEnded, endedAt}
@@ -25,7 +25,7 @@ module _ (list : List ℕ) (place : Place) where
       → keptPlace list place
       ≡ record {
         order = place .order;
-        slot = record { number = place .slot .number; body = bodyIn (orderAt list (listedAt list (orderCount list) (place .order))) };
+        slot = record { number = place .slot .number; body = bodyIn (orderNamed list (place .order)) };
       }
   unfolding keptPlace
   kept-stays e = rw e refl

@@ -9,7 +9,7 @@ use Rattle.kit.proofs.Cases.{given}
 use Rattle.condition.specs.Slots.{codedOf}
 use Rattle.condition.specs.declared.verdicts.Verdict.the-variants.{Accepted, Refused}
 use Rattle.telegram.specs.Telegrams.{readOf, bytesOf}
-use Rattle.orders.specs.Orders.{orderAt, orderCount, listedAt, isListed, placeAt, isLive, listRefusal}
+use Rattle.orders.specs.Orders.{stands, orderNamed, placeAt, isLive, listRefusal}
 use Rattle.orders.proofs.Lists.{fair}
 use Rattle.desk.specs.Desks.{rest, acceptOf, telegramOf, Made}
 use Rattle.desk.specs.Steps.{bodyIn}
@@ -40,17 +40,17 @@ module _ {desk : Desk} (made : Made desk) where
     after = acceptOf rest desk list .desk
 
     -- D-06, D-07, D-08: the live orders are exactly the list's
-    pub live-exactly : (order : ℕ) → 1 ≤ order → isLive (after .places) order ≡ isListed list (orderCount list) order
+    pub live-exactly : (order : ℕ) → 1 ≤ order → isLive (after .places) order ≡ stands list order
     live-exactly order p =
         ap (λ r. isLive (r .desk .places) order) (accepts rest desk list accepted)
         ∙ live-listed rest rest (omega arith) (omega arith) desk (made-sound made) list (fair (desk .places) list accepted) order p
 
     -- D-07: an order that stays keeps slot, number and type, and has the list's words
-    pub stays-put : (i : ℕ) → 1 ≤ placeAt (desk .places) i .order → isListed list (orderCount list) (placeAt (desk .places) i .order) ≡ true
+    pub stays-put : (i : ℕ) → 1 ≤ placeAt (desk .places) i .order → stands list (placeAt (desk .places) i .order) ≡ true
         → (placeAt (after .places) i .order ≡ placeAt (desk .places) i .order)
         × (placeAt (after .places) i .slot .number ≡ placeAt (desk .places) i .slot .number)
         × (codedOf (placeAt (after .places) i .slot) .kind ≡ codedOf (placeAt (desk .places) i .slot) .kind)
-        × (placeAt (after .places) i .slot .body ≡ bodyIn (orderAt list (listedAt list (orderCount list) (placeAt (desk .places) i .order))))
+        × (placeAt (after .places) i .slot .body ≡ bodyIn (orderNamed list (placeAt (desk .places) i .order)))
     stays-put i p listed =
         let e = ap (λ r. placeAt (r .desk .places) i) (accepts rest desk list accepted) in
         given (keeps rest rest (omega arith) (omega arith) desk (made-sound made) list (fair (desk .places) list accepted) i p listed)

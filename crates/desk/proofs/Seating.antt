@@ -20,7 +20,7 @@ use Rattle.kit.proofs.Member.{too-many}
 use Rattle.condition.specs.Slots.{Held}
 use Rattle.condition.specs.declared.slots.Coded.{Coded}
 use Rattle.condition.proofs.Coding.{filled-silent, read-held}
-use Rattle.orders.specs.Orders.{orderAt, orderCount, listedAt, isListed, freePlace, placeAt, placeOf, isLive, slots}
+use Rattle.orders.specs.Orders.{stands, orderAt, orderCount, listedAt, freePlace, placeAt, placeOf, isLive, slots}
 use Rattle.orders.specs.declared.Order.{Order}
 use Rattle.orders.specs.declared.Place.{Place}
 use Rattle.orders.proofs.Lists.{Fair, listed-there, listed-when, live-there, live-none, live-when}
@@ -163,7 +163,7 @@ pub record New (resting : ℕ → Bool) (list : List ℕ) (start : List Place) (
 
 module _ (resting : ℕ → Bool) (kept : List ℕ) (covered : (n : ℕ) → resting n ≡ true → member n kept ≡ true) (few : length kept ≤ 220)
     {old : List Place} (list : List ℕ) (fair : Fair old list)
-    (start : List Place) (ready : Orderly start) (listed : (i : ℕ) → 1 ≤ placeAt start i .order → isListed list (orderCount list) (placeAt start i .order) ≡ true) where
+    (start : List Place) (ready : Orderly start) (listed : (i : ℕ) → 1 ≤ placeAt start i .order → stands list (placeAt start i .order) ≡ true) where
   abbrev Grown : List Place → ℕ → Type 0
   Grown places i = (placeAt places i ≡ placeAt start i) ⊎ New resting list start i (placeAt places i)
 
@@ -178,7 +178,7 @@ module _ (resting : ℕ → Bool) (kept : List ℕ) (covered : (n : ℕ) → res
     order = orderAt list j
 
     -- every live order is in the list
-    still-listed : (i : ℕ) → Grown (seats .places) i → 1 ≤ placeAt (seats .places) i .order → isListed list (orderCount list) (placeAt (seats .places) i .order) ≡ true
+    still-listed : (i : ℕ) → Grown (seats .places) i → 1 ≤ placeAt (seats .places) i .order → stands list (placeAt (seats .places) i .order) ≡ true
     still-listed i (inl e) q = rw e (listed i (rw e at q))
     still-listed i (inr n) q = listed-when list (orderCount list) (placeAt (seats .places) i .order) (n .entry) (n .inlist) (sym (n .order))
 
@@ -193,7 +193,7 @@ module _ (resting : ℕ → Bool) (kept : List ℕ) (covered : (n : ℕ) → res
       crowd : ℕ → ℕ
       crowd i = cond (ltb i slots) (placeAt (seats .places) i .order) (order .number)
 
-      crowd-listed : isLive (seats .places) 0 ≡ false → (i : ℕ) → isListed list (orderCount list) (crowd i) ≡ true
+      crowd-listed : isLive (seats .places) 0 ≡ false → (i : ℕ) → stands list (crowd i) ≡ true
       unfolding crowd
       crowd-listed none i =
           on (ltb i slots)

@@ -13,7 +13,7 @@ use Rattle.kit.proofs.Cases.{on, and-second}
 use Rattle.condition.specs.Slots.{codedOf, Held}
 use Rattle.condition.specs.declared.slots.Coded.{Coded}
 use Rattle.condition.proofs.Coding.{filled-silent, read-held, coded-back}
-use Rattle.orders.specs.Orders.{orderAt, orderCount, listedAt, isListed, freePlace, placeAt, placeOf, isLive, isRetyped}
+use Rattle.orders.specs.Orders.{stands, orderNamed, orderAt, orderCount, listedAt, freePlace, placeAt, placeOf, isLive, isRetyped}
 use Rattle.orders.specs.declared.Place.{Place}
 use Rattle.orders.proofs.Lists.{Fair, listed-there, live-when}
 use Rattle.desk.specs.Steps.{stays, bodyIn, keptPlace}
@@ -24,14 +24,14 @@ module _ {places : List Place} (o : Orderly places) {list : List ℕ} (fair : Fa
   -- what a place is whose order stays: slot, number and type are as before, and the words are the list's (D-07)
   pub record Stayed (i : ℕ) (place : Place) : Type 0 where
     pub was : 1 ≤ placeAt places i .order
-    pub listed : isListed list (orderCount list) (placeAt places i .order) ≡ true
+    pub listed : stands list (placeAt places i .order) ≡ true
     pub order : place .order ≡ placeAt places i .order
     pub number : place .slot .number ≡ placeAt places i .slot .number
-    pub body : place .slot .body ≡ bodyIn (orderAt list (listedAt list (orderCount list) (placeAt places i .order)))
+    pub body : place .slot .body ≡ bodyIn (orderNamed list (placeAt places i .order))
     pub kind : codedOf (place .slot) .kind ≡ codedOf (placeAt places i .slot) .kind
     pub held : Held (place .slot)
 
-  module _ (i : ℕ) (listed : isListed list (orderCount list) (placeAt places i .order) ≡ true) where
+  module _ (i : ℕ) (listed : stands list (placeAt places i .order) ≡ true) where
     abbrev entry : ℕ
     entry = listedAt list (orderCount list) (placeAt places i .order)
 
@@ -124,9 +124,9 @@ module _ {places : List Place} (o : Orderly places) {list : List ℕ} (fair : Fa
         held = λ i. kept-held i (case i);
       }
 
-  pub kept-listed : (i : ℕ) → 1 ≤ placeAt kept i .order → isListed list (orderCount list) (placeAt kept i .order) ≡ true
+  pub kept-listed : (i : ℕ) → 1 ≤ placeAt kept i .order → stands list (placeAt kept i .order) ≡ true
   kept-listed i p = go (case i) p
     where
-      go : Case i → 1 ≤ placeAt kept i .order → isListed list (orderCount list) (placeAt kept i .order) ≡ true
+      go : Case i → 1 ≤ placeAt kept i .order → stands list (placeAt kept i .order) ≡ true
       go (inl s) p = rw (s .order) (s .listed)
       go (inr e) p = absurd (omega (arith, rw e at p))

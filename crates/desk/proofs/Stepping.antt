@@ -12,7 +12,7 @@ use native.Mathlib.Omega.{arith}
 use borrow.Author.Tests.{ltb-true, ltb-false}
 use Rattle.kit.proofs.Cases.{on, clash, given}
 use Rattle.condition.specs.Steps.{steps, gapOf}
-use Rattle.orders.specs.Orders.{orderAt, orderCount, listedAt, isListed, freePlace, placeAt, placeOf, isLive, slots}
+use Rattle.orders.specs.Orders.{stands, orderAt, orderCount, listedAt, freePlace, placeAt, placeOf, isLive, slots}
 use Rattle.orders.specs.declared.Place.{Place}
 use Rattle.orders.proofs.Lists.{Fair, listed-there, listed-when, live-there}
 use Rattle.numbers.specs.Numbers.{noneEnded, endedAt, isResting}
@@ -109,7 +109,7 @@ module _ (rest rows : ℕ) (enough : rest ≤ rows) (few : rows ≤ 11) (desk : 
       go (inr n) c = placed n
 
   -- D-07: an order present keeps its slot, number and type and takes the new words
-  pub keeps : (i : ℕ) → 1 ≤ placeAt (desk .places) i .order → isListed list (orderCount list) (placeAt (desk .places) i .order) ≡ true
+  pub keeps : (i : ℕ) → 1 ≤ placeAt (desk .places) i .order → stands list (placeAt (desk .places) i .order) ≡ true
       → Stayed (sound .orderly) fair i (placeAt (next .places) i)
   unfolding stepOf
   keeps i p listed = go (placing .grown i) (case (sound .orderly) fair i)
@@ -129,16 +129,16 @@ module _ (rest rows : ℕ) (enough : rest ≤ rows) (few : rows ≤ 11) (desk : 
   live k q = placing .live k q
 
   -- D-06, D-08: the live orders are exactly the list's
-  pub live-listed : (o : ℕ) → 1 ≤ o → isLive (next .places) o ≡ isListed list (orderCount list) o
+  pub live-listed : (o : ℕ) → 1 ≤ o → isLive (next .places) o ≡ stands list o
   live-listed o p =
-      on (isListed list (orderCount list) o)
+      on (stands list o)
       (λ e. given (listed-there list (orderCount list) o e) (λ (q, same). subst (λ n. isLive (next .places) n ≡ true) same (live (listedAt list (orderCount list) o) q) ∙ sym e))
       (λ e.
       on (isLive (next .places) o)
-      (λ f. given (live-there (next .places) o f) (λ (q, same). absurd (clash (subst (λ n. isListed list (orderCount list) n ≡ true) same (from (placeOf (next .places) o) (was (placeOf (next .places) o)) (omega (arith, same)))) e)))
+      (λ f. given (live-there (next .places) o f) (λ (q, same). absurd (clash (subst (λ n. stands list n ≡ true) same (from (placeOf (next .places) o) (was (placeOf (next .places) o)) (omega (arith, same)))) e)))
       (λ f. f ∙ sym e))
     where
-      from : (i : ℕ) → Was i (placeAt (next .places) i) → 1 ≤ placeAt (next .places) i .order → isListed list (orderCount list) (placeAt (next .places) i .order) ≡ true
+      from : (i : ℕ) → Was i (placeAt (next .places) i) → 1 ≤ placeAt (next .places) i .order → stands list (placeAt (next .places) i .order) ≡ true
       from i (stayed s) q = rw (s .order) (s .listed)
       from i (placed n) q = listed-when list (orderCount list) (placeAt (next .places) i .order) (n .entry) (n .inlist) (sym (n .order))
       from i (free e) q = absurd (omega (arith, rw e at q))
@@ -149,7 +149,7 @@ module _ (rest rows : ℕ) (enough : rest ≤ rows) (few : rows ≤ 11) (desk : 
   long = ended-long list now (desk .places) (desk .ended) (sound .orderly .twenty) ∙ sound .kept
 
   -- D-06: the number of an absent order is the one of its slot in the first row
-  pub rests : 1 ≤ rows → (i : ℕ) → 1 ≤ placeAt (desk .places) i .order → isListed list (orderCount list) (placeAt (desk .places) i .order) ≡ false
+  pub rests : 1 ≤ rows → (i : ℕ) → 1 ≤ placeAt (desk .places) i .order → stands list (placeAt (desk .places) i .order) ≡ false
       → endedAt (next .ended) i .number ≡ placeAt (desk .places) i .slot .number
   rests some i p absent =
       ap (λ (l : List Ended). endedAt l i .number) next-ended

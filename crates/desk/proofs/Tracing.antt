@@ -14,7 +14,7 @@ use borrow.Author.Tests.{ltb-true, ltb-false}
 use Rattle.kit.proofs.Cases.{on, clash, given}
 use Rattle.condition.specs.Slots.{codedOf}
 use Rattle.condition.specs.Steps.{steps}
-use Rattle.orders.specs.Orders.{orderCount, isListed, freePlace, placeAt, placeOf, slots}
+use Rattle.orders.specs.Orders.{stands, freePlace, placeAt, placeOf, slots}
 use Rattle.orders.specs.declared.Place.{Place}
 use Rattle.orders.proofs.Lists.{Fair, fair, live-there, live-when}
 use Rattle.numbers.specs.Numbers.{noneEnded, endedAt}
@@ -45,16 +45,16 @@ module _ (rest rows : ℕ) (enough : rest ≤ rows) (few : rows ≤ 11) (desk : 
   next = stepOf rest desk list
 
   abbrev listed : Bool
-  listed = isListed list (orderCount list) o
+  listed = stands list o
 
   ends : 1 ≤ rest → (i : ℕ) → Holds desk i x o → listed ≡ false → (j : ℕ) → Was rest rows enough few desk sound list fair j (at next j) → at next j .slot .number ≡ x → ⊥
   ends some i (a, b) absent j (stayed s) e =
       given (sound .orderly .apart i j (omega arith) (a ∙ (sym e ∙ s .number)))
-      (λ same. clash (subst (λ n. isListed list (orderCount list) n ≡ true) (ap (λ k. at desk k .order) (sym same) ∙ b) (s .listed)) absent)
+      (λ same. clash (subst (λ n. stands list n ≡ true) (ap (λ k. at desk k .order) (sym same) ∙ b) (s .listed)) absent)
   ends some i (a, b) absent j (placed n) e =
       let p : 1 ≤ at desk i .order = ordered (sound .orderly) i (omega arith) in
       not-given rest rows enough few desk sound list fair j i x positive (omega (arith, inside (sound .orderly) i p))
-      (rests rest rows enough few desk sound list fair (omega arith) i p (subst (λ m. isListed list (orderCount list) m ≡ false) (sym b) absent) ∙ a) n e
+      (rests rest rows enough few desk sound list fair (omega arith) i p (subst (λ m. stands list m ≡ false) (sym b) absent) ∙ a) n e
   ends some i (a, b) absent j (free z) e = omega (arith, ap (λ (y : Place). y .slot .number) z)
 
   stays-away : (r : ℕ) → slots + r < slots * rest → endedAt (desk .ended) r .number ≡ x → ((j : ℕ) → at desk j .slot .number ≡ x → ⊥)
@@ -73,7 +73,7 @@ module _ (rest rows : ℕ) (enough : rest ≤ rows) (few : rows ≤ 11) (desk : 
         (
           i,
           omega (arith, inside (sound .orderly) i p),
-          rests rest rows enough few desk sound list fair (omega arith) i p (subst (λ n. isListed list (orderCount list) n ≡ false) (sym b) absent) ∙ a,
+          rests rest rows enough few desk sound list fair (omega arith) i p (subst (λ n. stands list n ≡ false) (sym b) absent) ∙ a,
         ),
       )
 
@@ -91,7 +91,7 @@ module _ (rest rows : ℕ) (enough : rest ≤ rows) (few : rows ≤ 11) (desk : 
       on listed
       (λ m.
       given
-      (keeps rest rows enough few desk sound list fair i (ordered (sound .orderly) i (omega arith)) (subst (λ n. isListed list (orderCount list) n ≡ true) (sym b) m))
+      (keeps rest rows enough few desk sound list fair i (ordered (sound .orderly) i (omega arith)) (subst (λ n. stands list n ≡ true) (sym b) m))
       (λ s. inl ((m, t), (s .number ∙ a, s .order ∙ b))))
       (λ m. inr (wider (gone-now (omega arith) i (a, b) m)))
     where
@@ -168,7 +168,7 @@ module _ (rest rows : ℕ) (enough : rest ≤ rows) (few : rows ≤ 11) where
       (Stood o ls) (omega arith) (trace ls h i x o p a (omega arith) held))
 
   gone-after : (ls h : List (List ℕ)) (l : List ℕ) (i : ℕ) → Accepted rest rows (ls ++ (l ∷ h)) → length ls < rest
-      → 1 ≤ at (run rest rows h) i .order → isListed l (orderCount l) (at (run rest rows h) i .order) ≡ false
+      → 1 ≤ at (run rest rows h) i .order → stands l (at (run rest rows h) i .order) ≡ false
       → Gone (run rest rows (ls ++ (l ∷ h))) (at (run rest rows h) i .slot .number) (length ls + 1)
   unfolding run
   gone-after [] h l i (q, a) n p absent =
@@ -185,7 +185,7 @@ module _ (rest rows : ℕ) (enough : rest ≤ rows) (few : rows ≤ 11) where
 
   -- D-12, D-13: a number whose order ends in a step is in no table from that step on, as many tables in a row as the rest
   pub rested : (ls h : List (List ℕ)) (l : List ℕ) (i j : ℕ) → Accepted rest rows (ls ++ (l ∷ h)) → length ls < rest
-      → 1 ≤ at (run rest rows h) i .order → isListed l (orderCount l) (at (run rest rows h) i .order) ≡ false
+      → 1 ≤ at (run rest rows h) i .order → stands l (at (run rest rows h) i .order) ≡ false
       → at (run rest rows (ls ++ (l ∷ h))) j .slot .number ≡ at (run rest rows h) i .slot .number → ⊥
   rested ls h l i j a n p absent same =
       given (gone-after ls h l i a n p absent) (λ (away, there). away j same)

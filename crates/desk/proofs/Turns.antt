@@ -13,7 +13,7 @@ use borrow.Author.Tests.{eqb-true, eqb-false, lt-ltb}
 use Rattle.kit.specs.Loops.{fold}
 use Rattle.kit.proofs.Cases.{on, clash, given}
 use Rattle.kit.proofs.Loops.{fold-none, fold-more}
-use Rattle.orders.specs.Orders.{orderAt, orderCount, isListed, freePlace, placeAt, placeOf, isLive, slots}
+use Rattle.orders.specs.Orders.{stands, orderAt, orderCount, freePlace, placeAt, placeOf, isLive, slots}
 use Rattle.orders.specs.declared.Place.{Place}
 use Rattle.orders.proofs.Lists.{Fair, fair, listed-when, live-there, live-when}
 use Rattle.numbers.specs.Numbers.{isResting, hasNumber, isPermitted, nextNumber, numberAfter}
@@ -136,7 +136,7 @@ module _ {old : List Place} (o : Orderly old) {list : List ℕ} (f : Fair old li
 
 module _ (rest rows : ℕ) (enough : rest ≤ rows) (few : rows ≤ 11)
     (h : List (List ℕ)) (ending : List ℕ) (i : ℕ) (was : 1 ≤ at (run rest rows h) i .order)
-    (ended : isListed ending (orderCount ending) (at (run rest rows h) i .order) ≡ false)
+    (ended : stands ending (at (run rest rows h) i .order) ≡ false)
     (between : List (List ℕ)) (list : List ℕ) (accepted : Accepted rest rows (list ∷ (between ++ (ending ∷ h)))) where
   -- the number that ended, in step f
   abbrev number : ℕ

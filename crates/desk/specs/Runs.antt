@@ -5,7 +5,7 @@ use mathlib.Core.Path.{_≡_}
 use mathlib.Core.Bool.{true, false}
 use mathlib.Core.List.{List, [], _∷_}
 use lib.ListN.{replicate}
-use Rattle.orders.specs.Orders.{orderCount, isListed, freePlace, placeAt, slots, listRefusal}
+use Rattle.orders.specs.Orders.{stands, freePlace, placeAt, slots, listRefusal}
 use Rattle.numbers.specs.Numbers.{noneEnded}
 use Rattle.desk.specs.declared.Desk.{Desk}
 use Rattle.desk.specs.Steps.{stepOf}
@@ -27,17 +27,17 @@ Accepted rest rows (list ∷ earlier) = (listRefusal (run rest rows earlier .pla
 -- M-3c: an order stood in each of the lists
 abbrev pub Stood : ℕ → List (List ℕ) → Type 0
 Stood order [] = Unit
-Stood order (list ∷ earlier) = (isListed list (orderCount list) order ≡ true) × Stood order earlier
+Stood order (list ∷ earlier) = (stands list order ≡ true) × Stood order earlier
 
 -- M-3c, M-3d: an order stood in the newest of the lists; a fresh desk's table counts as an empty list
 abbrev pub InNewest : ℕ → List (List ℕ) → Type 0
 InNewest order [] = ⊥
-InNewest order (list ∷ earlier) = isListed list (orderCount list) order ≡ true
+InNewest order (list ∷ earlier) = stands list order ≡ true
 
 -- D-12: an order that had the number ended so many steps before the newest one; 0 is the newest one itself
 abbrev pub EndedAgo : ℕ → ℕ → List (List ℕ) → ℕ → ℕ → Type 0
 EndedAgo rest rows [] number ago = ⊥
 EndedAgo rest rows (list ∷ earlier) number zero =
     let before = run rest rows earlier .places in
-    (i : ℕ) × (1 ≤ placeAt before i .order) × (placeAt before i .slot .number ≡ number) × (isListed list (orderCount list) (placeAt before i .order) ≡ false)
+    (i : ℕ) × (1 ≤ placeAt before i .order) × (placeAt before i .slot .number ≡ number) × (stands list (placeAt before i .order) ≡ false)
 EndedAgo rest rows (list ∷ earlier) number (suc ago) = EndedAgo rest rows earlier number ago

@@ -9,7 +9,7 @@ use Rattle.kit.specs.Loops.{fold}
 use Rattle.condition.specs.Slots.{bodyOf}
 use Rattle.condition.specs.Steps.{steps}
 use Rattle.condition.specs.declared.slots.Body.{Body}
-use Rattle.orders.specs.Orders.{orderAt, orderCount, listedAt, isListed, freePlace, placeOf, isLive, slots}
+use Rattle.orders.specs.Orders.{lowestFree, stands, orderNamed, orderAt, orderCount, freePlace, isLive, slots}
 use Rattle.orders.specs.declared.Order.{Order}
 use Rattle.orders.specs.declared.Place.{Place}
 use Rattle.numbers.specs.Numbers.{noneEnded, isResting, nextNumber}
@@ -25,7 +25,7 @@ nextStep step = (step + 1) % steps
 
 -- D-06, D-07: the order of this place is in the list
 abbrev pub stays : List ℕ → Place → Bool
-stays list place = isListed list (orderCount list) (place .order)
+stays list place = stands list (place .order)
 
 -- D-07, K-11: the words that the list has for it
 abbrev pub bodyIn : Order → Body
@@ -37,7 +37,7 @@ keptPlace list place =
     cond (stays list place)
     (record {
       order = place .order;
-      slot = record { number = place .slot .number; body = bodyIn (orderAt list (listedAt list (orderCount list) (place .order))) };
+      slot = record { number = place .slot .number; body = bodyIn (orderNamed list (place .order)) };
     })
     freePlace
 
@@ -61,7 +61,7 @@ seated resting order seats =
     let number = nextNumber resting (seats .places) (seats .last) in
     cond (isLive (seats .places) (order .number)) seats
     (record {
-      places = set (seats .places) (placeOf (seats .places) 0) (record { order = order .number; slot = record { number = number; body = bodyIn order } });
+      places = set (seats .places) (lowestFree (seats .places)) (record { order = order .number; slot = record { number = number; body = bodyIn order } });
       last = number;
     })
 
@@ -71,7 +71,7 @@ seatedAll resting list seats n = fold (λ j. seated resting (orderAt list j)) se
 
 -- D-08: an order that is not live finds a free slot
 abbrev pub Room : Order → Seats → Type 0
-Room order seats = isLive (seats .places) (order .number) ≡ false → placeOf (seats .places) 0 < slots
+Room order seats = isLive (seats .places) (order .number) ≡ false → lowestFree (seats .places) < slots
 
 -- D-08: each of the first n orders does, when its turn comes
 abbrev pub RoomForAll : (ℕ → Bool) → List ℕ → Seats → ℕ → Type 0

@@ -42,6 +42,14 @@ listedAt list n number = find (λ j. eqb (orderAt list j .number) number) n
 abbrev pub isListed : List ℕ → ℕ → ℕ → Bool
 isListed list n number = ltb (listedAt list n number) n
 
+-- D-06, M-3c: an order stands in the list
+abbrev pub stands : List ℕ → ℕ → Bool
+stands list number = isListed list (orderCount list) number
+
+-- D-07: what the list has under this order number
+abbrev pub orderNamed : List ℕ → ℕ → Order
+orderNamed list number = orderAt list (listedAt list (orderCount list) number)
+
 -- ---- the places of the desk
 
 -- W-01: the desk keeps twenty slots
@@ -56,9 +64,13 @@ freePlace = record { order = 0; slot = emptySlot }
 abbrev pub placeAt : List Place → ℕ → Place
 placeAt places i = getD places i freePlace
 
--- the lowest place that an order has, or 20 where it has none; of order 0, the lowest free place
+-- the lowest place that an order has, or 20 where it has none
 unfoldable pub placeOf : List Place → ℕ → ℕ
 placeOf places order = find (λ i. eqb (placeAt places i .order) order) slots
+
+-- D-08: the lowest free slot, or 20 where none is free
+abbrev pub lowestFree : List Place → ℕ
+lowestFree places = placeOf places 0
 
 -- A-01: an order is live: it has a place
 abbrev pub isLive : List Place → ℕ → Bool
