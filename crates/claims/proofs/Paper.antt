@@ -14,8 +14,8 @@ use Rattle.condition.specs.Steps.{gapOf}
 use Rattle.condition.specs.Words.{secondHeld, isConsidered}
 use Rattle.orders.specs.Orders.{orderAt, listedAt, placeOf, listRows}
 use Rattle.numbers.specs.Numbers.{restsBy, isResting, hasNumber, nextNumber}
-use Rattle.desk.specs.Desks.{freshDesk}
-use Rattle.desk.specs.Runs.{freshWith, run}
+use Rattle.desk.specs.Desks.{freshWith}
+use Rattle.desk.specs.Runs.{run}
 use Rattle.desk.specs.Steps.{keptPlace, endedEntry, endedNumbers, seated, seatedAll, stepOf}
 use Rattle.claims.specs.Reckoned.{Row, paper, desk-rows, p5-wrap, order, orders, wholly-new, one-stays, empty, numbers, from, alone, refusal, to-255, before-the-wrap}
 
@@ -42,11 +42,11 @@ AllTested (row ∷ rows) = Tested row × AllTested rows
 
 -- the checker computes the rows, the run of 8,197 steps by itself since one declaration may take so many steps and no more
 desk-tested : AllTested desk-rows
-unfolding same order orders wholly-new one-stays empty numbers from alone to-255 before-the-wrap refusal each ladder scan fold bodyOf secondHeld isConsidered gapOf orderAt listedAt placeOf listRows restsBy isResting hasNumber nextNumber freshDesk freshWith run keptPlace endedEntry endedNumbers seated seatedAll stepOf
+unfolding same order orders wholly-new one-stays empty numbers from alone to-255 before-the-wrap refusal each ladder scan fold bodyOf secondHeld isConsidered gapOf orderAt listedAt placeOf listRows restsBy isResting hasNumber nextNumber freshWith run keptPlace endedEntry endedNumbers seated seatedAll stepOf
 desk-tested = (refl, (refl, (refl, (refl, (refl, (refl, (refl, tt)))))))
 
 wrap-tested : Tested p5-wrap
-unfolding same order orders wholly-new one-stays empty numbers from alone to-255 before-the-wrap refusal each ladder scan fold bodyOf secondHeld isConsidered gapOf orderAt listedAt placeOf listRows restsBy isResting hasNumber nextNumber freshDesk freshWith run keptPlace endedEntry endedNumbers seated seatedAll stepOf
+unfolding same order orders wholly-new one-stays empty numbers from alone to-255 before-the-wrap refusal each ladder scan fold bodyOf secondHeld isConsidered gapOf orderAt listedAt placeOf listRows restsBy isResting hasNumber nextNumber freshWith run keptPlace endedEntry endedNumbers seated seatedAll stepOf
 wrap-tested = refl
 
 -- ---- the theorem

@@ -12,8 +12,8 @@ use Rattle.orders.specs.Orders.{orderCount, listRefusal}
 use Rattle.orders.proofs.Lists.{fair}
 use Rattle.numbers.specs.Numbers.{isResting}
 use Rattle.desk.specs.declared.Desk.{Desk}
-use Rattle.desk.specs.Desks.{rest, freshDesk, acceptOf, Made, made, called}
-use Rattle.desk.specs.Runs.{freshWith, run, Accepted}
+use Rattle.desk.specs.Desks.{rest, acceptOf, Made, made, called}
+use Rattle.desk.specs.Runs.{run, Accepted}
 use Rattle.desk.specs.Steps.{nextStep, keptPlace, endedNumbers, RoomForAll, stepOf}
 use Rattle.desk.proofs.Stepping.{Sound, next-room}
 use Rattle.desk.proofs.Tracing.{run-sound}
@@ -29,15 +29,10 @@ module _ (figure : ℕ) (desk : Desk) (list : List ℕ) where
   unfolding acceptOf verdictOf
   refuses n = rw (ne-eqb (listRefusal (desk .places) list) 0 n) refl
 
--- the base's fresh desk keeps eight rows
-fresh-base : freshDesk ≡ freshWith rest
-unfolding freshDesk freshWith
-fresh-base = refl
-
 -- the accepted lists of a desk that was made
 pub made-run : {desk : Desk} → Made desk → (h : List (List ℕ)) × Accepted rest rest h × (desk ≡ run rest rest h)
 unfolding run
-made-run made = ([], tt, fresh-base)
+made-run made = ([], tt, refl)
 made-run (called {desk} m list) = go (made-run m)
   where
     go : (h : List (List ℕ)) × Accepted rest rest h × (desk ≡ run rest rest h)

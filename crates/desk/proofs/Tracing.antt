@@ -20,7 +20,8 @@ use Rattle.orders.proofs.Lists.{Fair, fair, live-there, live-when}
 use Rattle.numbers.specs.Numbers.{noneEnded, endedAt}
 use Rattle.numbers.specs.declared.Ended.{Ended}
 use Rattle.desk.specs.declared.Desk.{Desk}
-use Rattle.desk.specs.Runs.{freshWith, run, Accepted, Stood, InNewest}
+use Rattle.desk.specs.Desks.{freshWith}
+use Rattle.desk.specs.Runs.{run, Accepted, Stood, InNewest}
 use Rattle.desk.specs.Steps.{stepOf}
 use Rattle.desk.proofs.Seating.{inside, ordered}
 use Rattle.desk.proofs.Stepping.{Sound, Was, stayed, placed, free, was, keeps, live-listed, rests, moves, next-sound, not-given}

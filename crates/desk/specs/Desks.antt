@@ -1,5 +1,5 @@
 -- The desk and its calls: document 01, "The list and the step" and "Refusal numbers".
-use Prim.Native.Nat.{ℕ}
+use Prim.Native.Nat.{ℕ, _*_}
 use mathlib.Core.Bool.{cond}
 use mathlib.Core.List.{List, map}
 use lib.Dec.{eqb}
@@ -19,9 +19,13 @@ use Rattle.desk.specs.Steps.{stepOf}
 abbrev pub rest : ℕ
 rest = 8
 
--- D-04, D-11: step 0, all slots empty, nothing ended and no number given
-unfoldable pub freshDesk : Desk
-freshDesk = record { places = replicate slots freePlace; ended = replicate 160 noneEnded; last = 0; step = 0 }
+-- D-04, D-11: step 0, all slots empty, nothing ended and no number given; a desk keeps so many rows of twenty ended numbers
+unfoldable pub freshWith : ℕ → Desk
+freshWith rows = record { places = replicate slots freePlace; ended = replicate (slots * rows) noneEnded; last = 0; step = 0 }
+
+-- D-12: as many rows as an ended number rests
+abbrev pub freshDesk : Desk
+freshDesk = freshWith rest
 
 -- M-1a, D-02, D-18: refused with the desk as it was, or accepted with the desk after the step
 unfoldable pub acceptOf : ℕ → Desk → List ℕ → Answer

@@ -1,20 +1,15 @@
 -- Runs of a desk: the accepted lists, the newest first. Theorems about several steps speak of runs; refused lists leave the desk
 -- as it is (D-18), so a run has none.
-use Prim.Native.Nat.{ℕ, zero, suc, _*_, _≤_}
+use Prim.Native.Nat.{ℕ, zero, suc, _≤_}
 use mathlib.Core.Path.{_≡_}
 use mathlib.Core.Bool.{true, false}
 use mathlib.Core.List.{List, [], _∷_}
-use lib.ListN.{replicate}
-use Rattle.orders.specs.Orders.{stands, freePlace, placeAt, slots, listRefusal}
-use Rattle.numbers.specs.Numbers.{noneEnded}
+use Rattle.orders.specs.Orders.{stands, placeAt, listRefusal}
 use Rattle.desk.specs.declared.Desk.{Desk}
+use Rattle.desk.specs.Desks.{freshWith}
 use Rattle.desk.specs.Steps.{stepOf}
 
--- D-04: a fresh desk that keeps so many rows of ended numbers, twenty in each. The base's has eight.
-unfoldable pub freshWith : ℕ → Desk
-freshWith rows = record { places = replicate slots freePlace; ended = replicate (slots * rows) noneEnded; last = 0; step = 0 }
-
--- D-02: the desk after these lists
+-- D-02: the desk after these lists, which keeps so many rows of ended numbers
 unfoldable pub run : ℕ → ℕ → List (List ℕ) → Desk
 run rest rows [] = freshWith rows
 run rest rows (list ∷ earlier) = stepOf rest (run rest rows earlier) list
