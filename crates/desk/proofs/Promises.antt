@@ -1,22 +1,42 @@
 -- What the desk promises, of every desk that a making and earlier calls gave, and of every list: the base's instances, at a rest of
 -- eight, of what Seating, Stepping, Tracing, Resting and Tables prove over any rest from 1 to 11.
 use Prim.Native.Nat.{ℕ, _≤_}
-use mathlib.Core.Path.{_≡_, ap, _∙_}
-use mathlib.Core.Bool.{true}
-use mathlib.Core.List.{List}
+use mathlib.Core.Path.{_≡_, sym, ap, _∙_}
+use mathlib.Core.Logic.{_↔_}
+use mathlib.Core.Bool.{true, false}
+use mathlib.Core.List.{List, _∷_, _++_, map}
+use lib.ListN.{length}
 use native.Mathlib.Omega.{arith}
+use Rattle.kit.specs.Ladder.{Decides, Silent}
 use Rattle.kit.proofs.Cases.{given}
+use Rattle.condition.proofs.Answers.{refused-when, accepted-when}
 use Rattle.condition.specs.Slots.{codedOf}
 use Rattle.condition.specs.declared.verdicts.Verdict.the-variants.{Accepted, Refused}
 use Rattle.telegram.specs.Telegrams.{readOf, bytesOf}
-use Rattle.orders.specs.Orders.{stands, orderNamed, placeAt, isLive, listRefusal}
+use Rattle.orders.specs.Orders.{orderAt, placeOf, stands, orderNamed, placeAt, isLive, listRows, listRefusal}
 use Rattle.orders.proofs.Lists.{fair}
+use Rattle.orders.proofs.Rows.{list-numbered}
 use Rattle.desk.specs.Desks.{rest, acceptOf, telegramOf, Made}
-use Rattle.desk.specs.Steps.{bodyIn}
+use Rattle.desk.specs.Steps.{bodyIn, keptPlace}
+use Rattle.desk.specs.Runs.{run, Accepted as Accepted-run}
 use Rattle.desk.specs.declared.Desk.{Desk}
+use Rattle.numbers.specs.Numbers.{numberAfter}
+use Rattle.desk.proofs.Tracing.{at, rested}
+use Rattle.desk.proofs.Turns.{OneNew, passed-over, given-again}
 use Rattle.desk.proofs.Making.{accepts, refuses, made-sound}
 use Rattle.desk.proofs.Stepping.{live-listed, keeps}
 use Rattle.desk.proofs.Tables.{packet-read}
+
+-- R-18, R-23: a list is refused under a number exactly when the row with that number holds and no earlier one does, and accepted
+-- exactly when none holds. This is so of any desk.
+module _ (desk : Desk) (list : List ℕ) where
+  pub refused-by : (number : ℕ) → (acceptOf rest desk list .verdict ≡ Refused number) ↔ Decides (listRows (desk .places) list) number
+  unfolding acceptOf
+  refused-by = refused-when (listRows (desk .places) list) (list-numbered (desk .places) list)
+
+  pub accepted-by : (acceptOf rest desk list .verdict ≡ Accepted) ↔ Silent (listRows (desk .places) list)
+  unfolding acceptOf
+  accepted-by = accepted-when (listRows (desk .places) list) (list-numbered (desk .places) list)
 
 module _ {desk : Desk} (made : Made desk) where
   -- D-10, L-09: live numbers are 1 to 255, and no two live orders have the same
@@ -55,3 +75,37 @@ module _ {desk : Desk} (made : Made desk) where
         let e = ap (λ r. placeAt (r .desk .places) i) (accepts rest desk list accepted) in
         given (keeps rest rest (omega arith) (omega arith) desk (made-sound made) list (fair (desk .places) list accepted) i p listed)
         (λ s. (ap (λ x. x .order) e ∙ s .order, ap (λ x. x .slot .number) e ∙ s .number, ap (λ x. codedOf (x .slot) .kind) e ∙ s .kind, ap (λ x. x .slot .body) e ∙ s .body))
+
+-- ---- over several steps, of the accepted lists, the newest first
+
+abbrev desk-after : List (List ℕ) → Desk
+desk-after lists = run rest rest lists
+
+-- D-12, D-13: eight tables in a row go without the number of an order that ended: that of the step in which it did, and seven more
+pub eight-tables : (later earlier : List (List ℕ)) (ending : List ℕ) (i j : ℕ) → Accepted-run rest rest (later ++ (ending ∷ earlier)) → length later ≤ 7
+    → 1 ≤ at (desk-after earlier) i .order → stands ending (at (desk-after earlier) i .order) ≡ false
+    → at (desk-after (later ++ (ending ∷ earlier))) j .slot .number ≡ at (desk-after earlier) i .slot .number → ⊥
+eight-tables later earlier ending i j accepted few = rested rest rest (omega arith) (omega arith) later earlier ending i j accepted (omega arith)
+
+-- P5 for every f: an order with number 1 ended in step f, and later a list comes in which one order is new
+module _ (earlier : List (List ℕ)) (ending : List ℕ) (i : ℕ) (live : 1 ≤ at (desk-after earlier) i .order) (one : at (desk-after earlier) i .slot .number ≡ 1)
+    (ended : stands ending (at (desk-after earlier) i .order) ≡ false) (between : List (List ℕ)) (list : List ℕ)
+    (accepted : Accepted-run rest rest (list ∷ (between ++ (ending ∷ earlier)))) where
+  abbrev before : Desk
+  before = desk-after (between ++ (ending ∷ earlier))
+
+  abbrev with-it : Desk
+  with-it = desk-after (list ∷ (between ++ (ending ∷ earlier)))
+
+  -- if it comes in step f + 7, number 1 is passed over
+  pub p5-passed-over : length between ≡ 6 → (k : ℕ) → at with-it k .slot .number ≡ 1 → ⊥
+  p5-passed-over seven k same =
+      passed-over rest rest (omega arith) (omega arith) earlier ending i live ended between list accepted (omega arith) k (same ∙ sym one)
+
+  -- if it comes in step f + 8 instead, and the last number given is 255, it gets 1
+  pub p5-given : length between ≡ 7 → before .last ≡ 255 → (j : ℕ) → OneNew (before .places) list j
+      → (k : ℕ) × (at with-it k .order ≡ orderAt list j .number) × (at with-it k .slot .number ≡ 1)
+  p5-given eight last j new =
+      let turn : numberAfter (before .last) 0 ≡ at (desk-after earlier) i .slot .number = ap (λ n. numberAfter n 0) last ∙ sym one in
+      given (given-again rest rest (omega arith) (omega arith) earlier ending i live ended between list accepted (omega arith) turn j new)
+      (λ (l, number, order). (placeOf (map (keptPlace list) (before .places)) 0, order, number ∙ one))
