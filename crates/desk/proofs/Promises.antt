@@ -24,7 +24,7 @@ use Rattle.numbers.specs.Numbers.{numberAfter}
 use Rattle.desk.proofs.Tracing.{at, rested}
 use Rattle.desk.proofs.Turns.{OneNew, passed-over, given-again}
 use Rattle.desk.proofs.Making.{accepts, refuses, made-sound}
-use Rattle.desk.proofs.Stepping.{live-listed, keeps}
+use Rattle.desk.proofs.Stepping.{live-listed, has-words, keeps}
 use Rattle.desk.proofs.Tables.{packet-read}
 
 -- R-18, R-23: a list is refused under a number exactly when the row with that number holds and no earlier one does, and accepted
@@ -65,16 +65,21 @@ module _ {desk : Desk} (made : Made desk) where
         ap (λ r. isLive (r .desk .places) order) (accepts rest desk list accepted)
         ∙ live-listed rest rest (omega arith) (omega arith) desk (made-sound made) list (fair (desk .places) list accepted) order p
 
-    -- D-07: an order that stays keeps slot, number and type, and has the list's words
+    -- D-07, D-08: and each has the list's words, a second word that is not considered held as zero
+    pub words-exactly : (i : ℕ) → 1 ≤ placeAt (after .places) i .order → placeAt (after .places) i .slot .body ≡ bodyIn (orderNamed list (placeAt (after .places) i .order))
+    words-exactly i =
+        let e = ap (λ r. placeAt (r .desk .places) i) (accepts rest desk list accepted) in
+        rw e (has-words rest rest (omega arith) (omega arith) desk (made-sound made) list (fair (desk .places) list accepted) i)
+
+    -- D-07: an order that stays keeps slot, number and type
     pub stays-put : (i : ℕ) → 1 ≤ placeAt (desk .places) i .order → stands list (placeAt (desk .places) i .order) ≡ true
         → (placeAt (after .places) i .order ≡ placeAt (desk .places) i .order)
         × (placeAt (after .places) i .slot .number ≡ placeAt (desk .places) i .slot .number)
         × (codedOf (placeAt (after .places) i .slot) .kind ≡ codedOf (placeAt (desk .places) i .slot) .kind)
-        × (placeAt (after .places) i .slot .body ≡ bodyIn (orderNamed list (placeAt (desk .places) i .order)))
     stays-put i p listed =
         let e = ap (λ r. placeAt (r .desk .places) i) (accepts rest desk list accepted) in
         given (keeps rest rest (omega arith) (omega arith) desk (made-sound made) list (fair (desk .places) list accepted) i p listed)
-        (λ s. (ap (λ x. x .order) e ∙ s .order, ap (λ x. x .slot .number) e ∙ s .number, ap (λ x. codedOf (x .slot) .kind) e ∙ s .kind, ap (λ x. x .slot .body) e ∙ s .body))
+        (λ s. (ap (λ x. x .order) e ∙ s .order, ap (λ x. x .slot .number) e ∙ s .number, ap (λ x. codedOf (x .slot) .kind) e ∙ s .kind))
 
 -- ---- over several steps, of the accepted lists, the newest first
 

@@ -12,13 +12,13 @@ use native.Mathlib.Omega.{arith}
 use borrow.Author.Tests.{ltb-true, ltb-false}
 use Rattle.kit.proofs.Cases.{on, clash, given}
 use Rattle.condition.specs.Steps.{steps, gapOf}
-use Rattle.orders.specs.Orders.{stands, orderAt, orderCount, listedAt, freePlace, placeAt, placeOf, isLive, slots}
+use Rattle.orders.specs.Orders.{orderNamed, stands, orderAt, orderCount, listedAt, freePlace, placeAt, placeOf, isLive, slots}
 use Rattle.orders.specs.declared.Place.{Place}
-use Rattle.orders.proofs.Lists.{Fair, listed-there, listed-when, live-there}
+use Rattle.orders.proofs.Lists.{listed-self, Fair, listed-there, listed-when, live-there}
 use Rattle.numbers.specs.Numbers.{noneEnded, endedAt, isResting}
 use Rattle.numbers.specs.declared.Ended.{Ended}
 use Rattle.numbers.proofs.Search.{covers-resting, resting-when}
-use Rattle.desk.specs.Steps.{nextStep, keptPlace, endedNumbers, seatedAll, stepOf, RoomForAll}
+use Rattle.desk.specs.Steps.{bodyIn, nextStep, keptPlace, endedNumbers, seatedAll, stepOf, RoomForAll}
 use Rattle.desk.specs.declared.Desk.{Desk}
 use Rattle.desk.proofs.Endings.{kept-stays, entry-only, entry-ends, kept-at, ended-long, ended-now, ended-before}
 use Rattle.desk.proofs.Seating.{Orderly, inside, New, After, after, room-for-all}
@@ -142,6 +142,18 @@ module _ (rest rows : ℕ) (enough : rest ≤ rows) (few : rows ≤ 11) (desk : 
       from i (stayed s) q = rw (s .order) (s .listed)
       from i (placed n) q = listed-when list (orderCount list) (placeAt (next .places) i .order) (n .entry) (n .inlist) (sym (n .order))
       from i (free e) q = absurd (omega (arith, rw e at q))
+
+  -- D-07, D-08: and each has the list's words
+  pub has-words : (i : ℕ) → 1 ≤ placeAt (next .places) i .order → placeAt (next .places) i .slot .body ≡ bodyIn (orderNamed list (placeAt (next .places) i .order))
+  has-words i p = go (was i)
+    where
+      go : Was i (placeAt (next .places) i) → placeAt (next .places) i .slot .body ≡ bodyIn (orderNamed list (placeAt (next .places) i .order))
+      go (stayed s) = s .body ∙ ap (λ o. bodyIn (orderNamed list o)) (sym (s .order))
+      go (placed n) =
+          n .body
+          ∙ (ap (λ j. bodyIn (orderAt list j)) (sym (listed-self (desk .places) list (n .entry) fair (n .inlist)))
+          ∙ ap (λ o. bodyIn (orderNamed list o)) (sym (n .order)))
+      go (free e) = absurd (omega (arith, rw e at p))
 
   -- ---- ended numbers
 

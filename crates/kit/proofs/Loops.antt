@@ -65,9 +65,6 @@ module _ (test : ℕ → Bool) where
       (given (lowest m (k + 1) n (omega arith))
       (λ (a, b, c). (a, b, λ j p q. on (eqb k j) (λ same. rw (eqb-true k j same) at t) (λ other. c j (omega (arith, eqb-false k j other)) q)))))
 
-  pub find-most : (n : ℕ) → find test n ≤ n
-  find-most n = lowest n 0 n (omega arith) .0
-
   pub find-before : (n j : ℕ) → j < find test n → test j ≡ false
   find-before n j p = lowest n 0 n (omega arith) .2 j (omega arith) p
 

@@ -1,5 +1,5 @@
 -- Laws of `Put`: one byte, one run after another, and a run that fills the buffer.
-use Prim.Native.Nat.{ℕ, suc, _+_, _<_, _≤_}
+use Prim.Native.Nat.{ℕ, suc, _+_, _≤_}
 use mathlib.Core.Path.{_≡_, refl, sym, ap, _∙_, subst}
 use mathlib.Core.List.{List, [], _∷_, _++_, append-nil}
 use lib.ListN.{length, take, drop, set, length-append, drop-of-length-le}
@@ -20,9 +20,6 @@ sets-append l i (x ∷ a) b =
 pub put-none : {l : List ℕ} {i : ℕ} → Put l i [] l i
 put-none {l} {i} = record { stored = refl; past = sym (add-zero i) }
 
-pub put-one : (l : List ℕ) (i byte : ℕ) → Put l i (byte ∷ []) (set l i byte) (i + 1)
-put-one l i byte = record { stored = refl; past = refl }
-
 pub put-then : {l m n : List ℕ} {i j k : ℕ} {a b : List ℕ} → Put l i a m j → Put m j b n k → Put l i (a ++ b) n k
 put-then {l} {m} {n} {i} {j} {k} {a} {b} p q =
     record {
@@ -33,9 +30,6 @@ put-then {l} {m} {n} {i} {j} {k} {a} {b} p q =
 -- the same bytes under another name
 pub put-as : {l m : List ℕ} {i j : ℕ} {a b : List ℕ} → a ≡ b → Put l i b m j → Put l i a m j
 put-as {l} {m} {i} {j} e p = subst (λ (bytes : List ℕ). Put l i bytes m j) (sym e) p
-
-pub put-length : {l m : List ℕ} {i j : ℕ} {a : List ℕ} → Put l i a m j → length m ≡ length l
-put-length {l} {i = i} {a = a} p = ap length (p .stored) ∙ length-sets l i a
 
 -- what fills a buffer from its start to its end is what the buffer then holds
 pub put-whole : {l bytes m : List ℕ} {j : ℕ} → length l ≡ length bytes → Put l 0 bytes m j → m ≡ bytes
@@ -53,9 +47,6 @@ sets-out l i (x ∷ bytes) h = ap (λ (m : List ℕ). sets m (suc i) bytes) (set
 
 pub poured-none : (l : List ℕ) (i : ℕ) → i ≤ length l → Poured l i [] l i
 poured-none l i h = record { stored = refl; past = omega (arith, add-zero i) }
-
-pub poured-one : (l : List ℕ) (i byte : ℕ) → i < length l → Poured l i (byte ∷ []) (set l i byte) (i + 1)
-poured-one l i byte h = record { stored = refl; past = omega arith }
 
 pub poured-full : (l : List ℕ) (i : ℕ) (bytes : List ℕ) → length l ≤ i → Poured l i bytes l (length l)
 poured-full l i bytes h = record { stored = sym (sets-out l i bytes h); past = omega arith }

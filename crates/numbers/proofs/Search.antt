@@ -69,9 +69,6 @@ number-none places n i h p e =
     clash (eq-eqb (placeAt places i .slot .number) n e)
     (any-none (λ i. eqb (placeAt places i .slot .number) n) 0 slots h i (omega arith) (omega arith))
 
-pub number-when : (places : List Place) (n i : ℕ) → i < slots → placeAt places i .slot .number ≡ n → hasNumber places n ≡ true
-number-when places n i p e = on (hasNumber places n) (λ t. t) (λ t. absurd (number-none places n i t p e))
-
 pub number-some : (places : List Place) (n : ℕ) → hasNumber places n ≡ true → (i : ℕ) × (i < slots) × (placeAt places i .slot .number ≡ n)
 unfolding hasNumber
 number-some places n h =

@@ -11,7 +11,7 @@ use borrow.Author.Tests.{eqb-true, eqb-false, eq-eqb, ltb-true, ltb-false, not-f
 use Rattle.kit.specs.Ladder.{Silent}
 use Rattle.kit.proofs.Cases.{on, given}
 use Rattle.kit.proofs.Ladder.{silent-each}
-use Rattle.kit.proofs.Loops.{find-before, found-there, found-none, found-when}
+use Rattle.kit.proofs.Loops.{found-there, found-none, found-when}
 use Rattle.condition.specs.Words.{isType, secondAllowed}
 use Rattle.orders.specs.Orders.{orderAt, orderCount, listedAt, isListed, slots, placeAt, placeOf, isLive, isRetyped, orderRows, listRows, listRefusal}
 use Rattle.orders.specs.declared.Place.{Place}
@@ -46,10 +46,6 @@ module _ (places : List Place) (o : ℕ) where
   pub live-when : (i : ℕ) → i < slots → placeAt places i .order ≡ o → isLive places o ≡ true
   unfolding placeOf
   live-when i p e = found-when (λ k. eqb (placeAt places k .order) o) slots i p (eq-eqb _ o e)
-
-  pub live-lowest : (i : ℕ) → i < placeOf places o → placeAt places i .order ≡ o → ⊥
-  unfolding placeOf
-  live-lowest i p = eqb-false _ o (find-before (λ k. eqb (placeAt places k .order) o) slots i p)
 
 -- ---- an accepted list
 

@@ -1,11 +1,11 @@
 -- The ladders of a list of orders: their answers are numbers of document 01, and the law of the list in both directions (R-23).
-use Prim.Native.Nat.{ℕ, _≤_}
+use Prim.Native.Nat.{ℕ}
 use mathlib.Core.Path.{_≡_}
 use mathlib.Core.Logic.{_↔_}
 use mathlib.Core.List.{List}
 use native.Mathlib.Omega.{arith}
-use Rattle.kit.specs.Ladder.{Decides, Silent, Numbered}
-use Rattle.kit.proofs.Ladder.{numbered-each, refused-exactly, passed-exactly}
+use Rattle.kit.specs.Ladder.{Silent, Numbered}
+use Rattle.kit.proofs.Ladder.{numbered-each, passed-exactly}
 use Rattle.orders.specs.Orders.{orderCount, orderRows, listRows, listRefusal}
 use Rattle.orders.specs.declared.Place.{Place}
 
@@ -17,10 +17,6 @@ order-numbered places list j = omega arith
 pub list-numbered : (places : List Place) (list : List ℕ) → Numbered (listRows places list)
 unfolding listRows
 list-numbered places list = (omega arith, (omega arith, numbered-each (orderRows places list) (order-numbered places list) 0 (orderCount list)))
-
--- R-23: the answer is n exactly when a row with n holds and no row above it does, and 0 exactly when no row holds
-pub list-refused : (places : List Place) (list : List ℕ) (n : ℕ) → 1 ≤ n → (listRefusal places list ≡ n) ↔ Decides (listRows places list) n
-list-refused places list = refused-exactly (listRows places list) (list-numbered places list)
 
 pub list-accepted : (places : List Place) (list : List ℕ) → (listRefusal places list ≡ 0) ↔ Silent (listRows places list)
 list-accepted places list = passed-exactly (listRows places list) (list-numbered places list)
