@@ -75,12 +75,12 @@ fn take(desk: Desk, list: &[u8], lists: u64) -> Desk
 
 fn show_table(desk: Desk) {
     let mut out = [0u8; 130];
-    desk_run::put_table(desk, &mut out, 0);
+    desk_output::put_table(desk, &mut out, 0);
     io::write_all(STDOUT_FILENO, &out);
 }
 
 fn show_refused(number: u8, lists: u64) {
     let mut line = [0u8; 64];
-    let n = desk_run::put_refused(number, lists, &mut line, 0);
+    let n = desk_output::put_refused(number, lists, &mut line, 0);
     io::write_all(STDERR_FILENO, &line[..n]);
 }

@@ -4,7 +4,7 @@ ghost use Prim.Native.Nat.{_≤_};
 ghost use Rattle.kit.specs.Put.{Poured};
 ghost use Rattle.telegram.specs.Telegrams.{bytesOf};
 ghost use Rattle.desk.specs.Desks.{telegramOf};
-ghost use Rattle.desk_run.specs.Outputs.{tableBytes, refusedLine};
+ghost use Rattle.desk_output.specs.Outputs.{tableBytes, refusedLine};
 
 // One packet of the table.
 fn put_packet(desk: Desk, packet: u8, out: &mut [u8], at: usize) -> usize

@@ -3,8 +3,8 @@ use Rattle.kit.proofs.Put.{poured-as}
 use mathlib.Core.Path.{sym, _∙_, refl}
 use Rattle.desk.proofs.Tables.{packet-written}
 use borrow.Author.Needs.{needs}
-use Rattle.desk_run.proofs.put_packet.Statement.{statement}
-use Rattle.desk_run.proofs.put_packet.Tie as tie
+use Rattle.desk_output.proofs.put_packet.Statement.{statement}
+use Rattle.desk_output.proofs.put_packet.Tie as tie
 
 slice-aggregate-write : tie.Need-slice-aggregate-write
 slice-aggregate-write c = search needs

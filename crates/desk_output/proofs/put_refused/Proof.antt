@@ -1,9 +1,9 @@
 -- `put_refused`: the words and the two numbers, one after another.
 use Rattle.kit.proofs.Put.{poured-then}
-use Rattle.desk_run.specs.Outputs.{refusedLine}
+use Rattle.desk_output.specs.Outputs.{refusedLine}
 use borrow.Author.Needs.{needs}
-use Rattle.desk_run.proofs.put_refused.Statement.{statement}
-use Rattle.desk_run.proofs.put_refused.Tie as tie
+use Rattle.desk_output.proofs.put_refused.Statement.{statement}
+use Rattle.desk_output.proofs.put_refused.Tie as tie
 
 slice-aggregate-put-words : tie.Need-slice-aggregate-put-words
 slice-aggregate-put-words c = search needs

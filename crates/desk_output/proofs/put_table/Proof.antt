@@ -1,9 +1,9 @@
 -- `put_table`: five packets, one after another.
 use Rattle.kit.proofs.Put.{poured-then}
-use Rattle.desk_run.specs.Outputs.{tableBytes}
+use Rattle.desk_output.specs.Outputs.{tableBytes}
 use borrow.Author.Needs.{needs}
-use Rattle.desk_run.proofs.put_table.Statement.{statement}
-use Rattle.desk_run.proofs.put_table.Tie as tie
+use Rattle.desk_output.proofs.put_table.Statement.{statement}
+use Rattle.desk_output.proofs.put_table.Tie as tie
 
 put-packet-requires : tie.Need-put-packet-requires
 put-packet-requires c κs = search needs
