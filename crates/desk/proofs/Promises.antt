@@ -5,9 +5,10 @@ use mathlib.Core.Path.{_≡_, sym, ap, _∙_}
 use mathlib.Core.Logic.{_↔_}
 use mathlib.Core.Bool.{true, false}
 use mathlib.Core.List.{List, _∷_, _++_, map}
-use lib.ListN.{length}
+use lib.ListN.{length, length-map}
 use native.Mathlib.Omega.{arith}
 use Rattle.kit.specs.Ladder.{Decides, Silent}
+use Rattle.kit.specs.Member.{member}
 use Rattle.kit.proofs.Cases.{given}
 use Rattle.condition.proofs.Answers.{refused-when, accepted-when}
 use Rattle.condition.specs.Slots.{codedOf}
@@ -20,7 +21,9 @@ use Rattle.desk.specs.Desks.{rest, acceptOf, telegramOf, Made}
 use Rattle.desk.specs.Steps.{bodyIn, keptPlace}
 use Rattle.desk.specs.Runs.{run, Accepted as Accepted-run}
 use Rattle.desk.specs.declared.Desk.{Desk}
-use Rattle.numbers.specs.Numbers.{numberAfter}
+use Rattle.numbers.specs.Numbers.{isResting, isPermitted, nextNumber, numberAfter}
+use Rattle.numbers.specs.declared.Ended.{Ended}
+use Rattle.numbers.proofs.Search.{covers-resting, number-permitted}
 use Rattle.desk.proofs.Tracing.{at, rested}
 use Rattle.desk.proofs.Turns.{OneNew, passed-over, given-again}
 use Rattle.desk.proofs.Making.{accepts, refuses, made-sound}
@@ -45,6 +48,18 @@ module _ {desk : Desk} (made : Made desk) where
 
   pub numbers-differ : (i j : ℕ) → 1 ≤ placeAt (desk .places) i .slot .number → placeAt (desk .places) i .slot .number ≡ placeAt (desk .places) j .slot .number → i ≡ j
   numbers-differ = made-sound made .orderly .apart
+
+  -- D-14: each number that rests is one of 160
+  pub few-rest : (length (desk .ended) ≡ 160)
+      × ((number : ℕ) → isResting rest (desk .step) (desk .ended) number ≡ true → member number (map (λ (e : Ended). e .number) (desk .ended)) ≡ true)
+  few-rest = (made-sound made .kept, covers-resting rest (desk .step) (desk .ended))
+
+  -- D-15: so the search for the next number ends at a permitted one
+  pub number-found : isPermitted (isResting rest (desk .step) (desk .ended)) (desk .places) (nextNumber (isResting rest (desk .step) (desk .ended)) (desk .places) (desk .last)) ≡ true
+  number-found =
+      let few : length (map (λ (e : Ended). e .number) (desk .ended)) ≤ 220 = omega (arith, length-map (desk .ended) (λ (e : Ended). e .number), few-rest .0) in
+      number-permitted (isResting rest (desk .step) (desk .ended)) (map (λ (e : Ended). e .number) (desk .ended)) (few-rest .1) few (desk .places)
+      (made-sound made .orderly .twenty) (desk .last)
 
   -- M-2d: each packet that it writes is read back
   pub reads-back : (packet : ℕ) → 3 ≤ packet → packet ≤ 7 → readOf (bytesOf (telegramOf desk packet)) ≡ record { verdict = Accepted; telegram = telegramOf desk packet }
