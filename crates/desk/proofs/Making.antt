@@ -2,11 +2,12 @@
 use Prim.Native.Nat.{ℕ}
 use mathlib.Core.Path.{_≡_, refl, sym, ap, _∙_, subst}
 use mathlib.Core.List.{List, [], _∷_, map}
+use mathlib.Core.Bool.{cond}
 use lib.Dec.{eqb}
 use native.Mathlib.Omega.{arith}
 use borrow.Author.Tests.{eqb-true, eqb-false, ne-eqb}
 use Rattle.kit.proofs.Cases.{on}
-use Rattle.condition.specs.Verdicts.{verdictOf}
+use Rattle.condition.proofs.Answers.{verdict-accepted, verdict-refused}
 use Rattle.condition.specs.declared.verdicts.Verdict.the-variants.{Accepted as accepted, Refused}
 use Rattle.orders.specs.Orders.{orderCount, listRefusal}
 use Rattle.orders.proofs.Lists.{fair}
@@ -14,20 +15,25 @@ use Rattle.numbers.specs.Numbers.{isResting}
 use Rattle.desk.specs.declared.Desk.{Desk}
 use Rattle.desk.specs.Desks.{rest, acceptOf, Made, made, called}
 use Rattle.desk.specs.Runs.{run, Accepted}
-use Rattle.desk.specs.Steps.{nextStep, keptPlace, endedNumbers, RoomForAll, stepOf}
+use Rattle.desk.specs.Steps.{nextStep, keptPlace, endedNumbers, stepOf}
+use Rattle.desk.specs.Rooms.{RoomForAll}
 use Rattle.desk.proofs.Stepping.{Sound, next-room}
 use Rattle.desk.proofs.Tracing.{run-sound}
 
 module _ (figure : ℕ) (desk : Desk) (list : List ℕ) where
   -- D-02: an accepted list makes a step
   pub accepts : listRefusal (desk .places) list ≡ 0 → acceptOf figure desk list ≡ record { verdict = accepted; desk = stepOf figure desk list }
-  unfolding acceptOf verdictOf
-  accepts e = rw e refl
+  unfolding acceptOf
+  accepts e =
+      let next : cond (eqb (listRefusal (desk .places) list) 0) (stepOf figure desk list) desk ≡ stepOf figure desk list = rw e refl in
+      λ i. record { verdict = verdict-accepted (listRefusal (desk .places) list) e i; desk = next i }
 
   -- D-18, R-24: a refused one changes nothing, the rests included
   pub refuses : (listRefusal (desk .places) list ≡ 0 → ⊥) → acceptOf figure desk list ≡ record { verdict = Refused (listRefusal (desk .places) list); desk = desk }
-  unfolding acceptOf verdictOf
-  refuses n = rw (ne-eqb (listRefusal (desk .places) list) 0 n) refl
+  unfolding acceptOf
+  refuses n =
+      let same : cond (eqb (listRefusal (desk .places) list) 0) (stepOf figure desk list) desk ≡ desk = rw (ne-eqb (listRefusal (desk .places) list) 0 n) refl in
+      λ i. record { verdict = verdict-refused (listRefusal (desk .places) list) n i; desk = same i }
 
 -- the accepted lists of a desk that was made
 pub made-run : {desk : Desk} → Made desk → (h : List (List ℕ)) × Accepted rest rest h × (desk ≡ run rest rest h)

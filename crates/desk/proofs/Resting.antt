@@ -5,21 +5,16 @@ use mathlib.Core.Path.{_≡_, sym, ap, _∙_, subst}
 use mathlib.Core.Logic.{_↔_}
 use mathlib.Core.Bool.{true}
 use mathlib.Core.List.{List, [], _∷_}
-use lib.Dec.{ltb}
-use lib.ListN.{List·getD-eq-default}
 use native.Mathlib.Omega.{arith}
-use borrow.Author.Tests.{ltb-true, ltb-false}
 use Rattle.kit.proofs.Cases.{on, given}
 use Rattle.orders.specs.Orders.{slots}
 use Rattle.orders.proofs.Lists.{fair}
-use Rattle.numbers.specs.Numbers.{noneEnded, endedAt, isResting}
+use Rattle.numbers.specs.Numbers.{endedAt, isResting}
 use Rattle.numbers.specs.declared.Ended.{Ended}
 use Rattle.numbers.proofs.Search.{resting-some, resting-when}
 use Rattle.desk.specs.Runs.{run, Accepted, EndedAgo}
-use Rattle.desk.specs.Steps.{nextStep}
-use Rattle.desk.proofs.Endings.{entry-only, ended-now}
 use Rattle.desk.proofs.Seating.{inside}
-use Rattle.desk.proofs.Stepping.{Sound, rests, moves, next-ended}
+use Rattle.desk.proofs.Stepping.{Sound, Entry, begun, moved, entry, rests, moves}
 use Rattle.desk.proofs.Tracing.{at, run-sound, fresh-ended}
 
 module _ (rest rows : ℕ) (enough : rest ≤ rows) (few : rows ≤ 11) where
@@ -28,41 +23,20 @@ module _ (rest rows : ℕ) (enough : rest ≤ rows) (few : rows ≤ 11) where
   unfolding run
   entry-ended [] r x a p e = absurd (omega (arith, rw fresh-ended at e))
   entry-ended (l ∷ h) r x (q, a) p e =
-      on (ltb r (slots * rows))
-      (λ small.
-      on (ltb r slots)
-      (λ first. new (ltb-true r slots first) (ltb-true r (slots * rows) small))
-      (λ later.
-      let back : slots + (r - slots) ≡ r = omega (arith, ltb-false r slots later) in
-      let row : suc ((r - slots) / slots) ≡ r / slots = omega (arith, ltb-false r slots later) in
-      subst (λ k. EndedAgo rest rows (l ∷ h) x k) row
-      (entry-ended h (r - slots) x a p
-      (ap (λ (y : Ended). y .number)
-      (sym (moves rest rows enough few (run rest rows h) (run-sound rest rows enough few h a) l (fair (run rest rows h .places) l q) (r - slots)
-      (omega (arith, ltb-true r (slots * rows) small, ltb-false r slots later))))
-      ∙ subst (λ k. endedAt (run rest rows (l ∷ h) .ended) k .number ≡ x) (sym back) e))))
-      (λ big.
-      absurd
-      (omega (
-        arith,
-        ap (λ (y : Ended). y .number)
-            (List·getD-eq-default (run rest rows (l ∷ h) .ended) noneEnded {n = r}
-            (omega (arith, ltb-false r (slots * rows) big, run-sound rest rows enough few (l ∷ h) (q, a) .kept))),
-      )))
+      go (λ before. entry-ended h before x a p) (entry rest rows enough few (run rest rows h) s l (fair (run rest rows h .places) l q) r (omega arith))
     where
       s : Sound rows (run rest rows h)
       s = run-sound rest rows enough few h a
 
-      new : r < slots → r < slots * rows → EndedAgo rest rows (l ∷ h) x (r / slots)
-      new small inside-rows =
-          let there =
-          ap (λ (es : List Ended). endedAt es r) (next-ended rest rows enough few (run rest rows h) s l (fair (run rest rows h .places) l q))
-          ∙ ended-now l (nextStep (run rest rows h .step)) (run rest rows h .places) (run rest rows h .ended) (s .orderly .twenty) r small (omega (arith, s .kept)) in
+      go : ((before : ℕ) → endedAt (run rest rows h .ended) before .number ≡ x → EndedAgo rest rows h x (before / slots))
+          → Entry rest rows enough few (run rest rows h) s l (fair (run rest rows h .places) l q) r
+          → EndedAgo rest rows (l ∷ h) x (r / slots)
+      go older (begun small named absent there) =
           let row : 0 ≡ r / slots = omega arith in
-          given
-          (entry-only l (at (run rest rows h) r) (nextStep (run rest rows h .step)) (omega (arith, ap (λ (y : Ended). y .number) there)))
-          (λ (named, absent, same).
-          subst (λ k. EndedAgo rest rows (l ∷ h) x k) row (r, named, sym (ap (λ (y : Ended). y .number) (there ∙ same)) ∙ e, absent))
+          subst (λ k. EndedAgo rest rows (l ∷ h) x k) row (r, named, sym (ap (λ (y : Ended). y .number) there) ∙ e, absent)
+      go older (moved before back small there) =
+          let row : suc (before / slots) ≡ r / slots = omega arith in
+          subst (λ k. EndedAgo rest rows (l ∷ h) x k) row (older before (sym (ap (λ (y : Ended). y .number) there) ∙ e))
 
   -- and of an order that ended k steps ago there is one in row k
   pub ended-entry : (h : List (List ℕ)) (x k : ℕ) → Accepted rest rows h → k < rows → EndedAgo rest rows h x k

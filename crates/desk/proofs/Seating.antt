@@ -17,16 +17,19 @@ use Rattle.kit.specs.Member.{member}
 use Rattle.kit.proofs.Cases.{on, given}
 use Rattle.kit.proofs.Loops.{fold-none, fold-more}
 use Rattle.kit.proofs.Member.{too-many}
-use Rattle.condition.specs.Slots.{Held}
+use Rattle.kit.specs.Ladder.{Silent}
+use Rattle.condition.specs.Slots.{slotRows, codedOf, Held}
 use Rattle.condition.specs.declared.slots.Coded.{Coded}
-use Rattle.condition.proofs.Coding.{filled-silent, read-held}
+use Rattle.condition.specs.declared.slots.Slot.{Slot}
+use Rattle.condition.proofs.Coding.{filled-silent, read-held, coded-back}
 use Rattle.orders.specs.Orders.{stands, orderAt, orderCount, listedAt, freePlace, placeAt, placeOf, isLive, slots}
 use Rattle.orders.specs.declared.Order.{Order}
 use Rattle.orders.specs.declared.Place.{Place}
 use Rattle.orders.proofs.Lists.{Fair, listed-there, listed-when, live-there, live-none, live-when}
 use Rattle.numbers.specs.Numbers.{nextNumber}
 use Rattle.numbers.proofs.Search.{number-range, number-idle, number-rested}
-use Rattle.desk.specs.Steps.{bodyIn, seated, seatedAll, RoomForAll}
+use Rattle.desk.specs.Steps.{bodyIn, seated, seatedAll}
+use Rattle.desk.specs.Rooms.{RoomForAll}
 use Rattle.desk.specs.declared.arriving.Seats.{Seats}
 
 -- what is true of a desk's places (READINGS 3.4, d1 to d3)
@@ -58,6 +61,23 @@ module _ {places : List Place} (o : Orderly places) where
   live-at i p =
       given (live-there places (placeAt places i .order) (live-when places (placeAt places i .order) i (inside i p) refl))
       (λ (q, e). sym (o .single i (placeOf places (placeAt places i .order)) p (sym e)))
+
+-- the slot that an order of an accepted list makes with a number: it is held, and has the order's type
+module _ {old : List Place} {list : List ℕ} (fair : Fair old list) {j : ℕ} (inlist : j < orderCount list) (number : ℕ) (positive : 0 < number) where
+  abbrev made : Slot
+  made = record { number = number; body = bodyIn (orderAt list j) }
+
+  abbrev coded : Coded
+  coded = record { number = number; kind = orderAt list j .kind; first = orderAt list j .first; second = orderAt list j .second }
+
+  silent : Silent (slotRows coded)
+  silent = filled-silent coded (record { number = positive; kind = fair .typed j inlist; allowed = fair .allowed j inlist })
+
+  pub made-held : Held made
+  made-held = read-held coded silent
+
+  pub made-kind : codedOf made .kind ≡ orderAt list j .kind
+  made-kind = ap (λ (c : Coded). c .kind) (coded-back coded silent)
 
 -- the lowest free place taken: that one, and every other as it was
 abbrev taken : List Place → Place → List Place
@@ -230,11 +250,6 @@ module _ (resting : ℕ → Bool) (kept : List ℕ) (covered : (n : ℕ) → res
 
     -- ---- the turn of order j
 
-    order-held : (number : ℕ) → 0 < number → Held (record { number = number; body = bodyIn order })
-    order-held number q =
-        let c : Coded = record { number = number; kind = order .kind; first = order .first; second = order .second } in
-        read-held c (filled-silent c (record { number = q; kind = fair .typed j p; allowed = fair .allowed j p }))
-
     module _ (unlive : isLive (seats .places) (order .number) ≡ false) where
       abbrev number : ℕ
       number = nextNumber resting (seats .places) (seats .last)
@@ -264,7 +279,7 @@ module _ (resting : ℕ → Bool) (kept : List ℕ) (covered : (n : ℕ) → res
       next-spot = spot (seats .places) new (omega (arith, a .orderly .twenty, room unlive))
 
       next-orderly : Orderly (next .places)
-      next-orderly = taken-orderly (seats .places) (a .orderly) new (fair .named j p) (range .0) (range .1) (order-held number (range .0)) unlive (room unlive) idle
+      next-orderly = taken-orderly (seats .places) (a .orderly) new (fair .named j p) (range .0) (range .1) (made-held fair p number (range .0)) unlive (room unlive) idle
 
       next-grown : (i : ℕ) → Spot (seats .places) new i → Grown (seats .places) i → Grown (next .places) i
       next-grown i (inl (here, e)) g =

@@ -5,20 +5,16 @@ use mathlib.Core.Path.{_≡_, refl, sym, ap, _∙_, subst}
 use mathlib.Core.Logic.{_⊎_, inl, inr}
 use mathlib.Core.Bool.{true}
 use mathlib.Core.List.{List, map}
-use lib.Dec.{eqb}
 use lib.ListN.{length-map}
 use native.Mathlib.Omega.{arith}
-use borrow.Author.Tests.{eqb-true, not-false}
-use Rattle.kit.proofs.Cases.{on, and-second}
+use Rattle.kit.proofs.Cases.{on}
 use Rattle.condition.specs.Slots.{codedOf, Held}
-use Rattle.condition.specs.declared.slots.Coded.{Coded}
-use Rattle.condition.proofs.Coding.{filled-silent, read-held, coded-back}
-use Rattle.orders.specs.Orders.{stands, orderNamed, orderAt, orderCount, listedAt, freePlace, placeAt, placeOf, isLive, isRetyped}
+use Rattle.orders.specs.Orders.{stands, orderNamed, orderAt, orderCount, listedAt, freePlace, placeAt, placeOf, isLive}
 use Rattle.orders.specs.declared.Place.{Place}
-use Rattle.orders.proofs.Lists.{Fair, listed-there, live-when}
+use Rattle.orders.proofs.Lists.{Fair, listed-there, live-when, type-kept}
 use Rattle.desk.specs.Steps.{stays, bodyIn, keptPlace}
 use Rattle.desk.proofs.Endings.{kept-stays, kept-ends, kept-at}
-use Rattle.desk.proofs.Seating.{Orderly, inside, live-at}
+use Rattle.desk.proofs.Seating.{Orderly, inside, live-at, made-held, made-kind}
 
 module _ {places : List Place} (o : Orderly places) {list : List ℕ} (fair : Fair places list) where
   -- what a place is whose order stays: slot, number and type are as before, and the words are the list's (D-07)
@@ -41,43 +37,21 @@ module _ {places : List Place} (o : Orderly places) {list : List ℕ} (fair : Fa
     positive : 1 ≤ placeAt places i .order
     positive = omega (arith, there .1, fair .named entry (there .0))
 
-    abbrev coded : Coded
-    coded =
-        record {
-          number = placeAt places i .slot .number;
-          kind = orderAt list entry .kind;
-          first = orderAt list entry .first;
-          second = orderAt list entry .second;
-        }
-
-    coded-held : Held (record { number = placeAt places i .slot .number; body = bodyIn (orderAt list entry) })
-    coded-held =
-        read-held coded
-        (filled-silent coded
-        (record { number = o .numbered i positive .0; kind = fair .typed entry (there .0); allowed = fair .allowed entry (there .0) }))
+    abbrev number : ℕ
+    number = placeAt places i .slot .number
 
     -- refusal 8: its type is the one that it had
-    same-kind : codedOf (record { number = placeAt places i .slot .number; body = bodyIn (orderAt list entry) }) .kind ≡ codedOf (placeAt places i .slot) .kind
-    unfolding isRetyped
+    same-kind : codedOf (record { number = number; body = bodyIn (orderAt list entry) }) .kind ≡ codedOf (placeAt places i .slot) .kind
     same-kind =
-        ap (λ (c : Coded). c .kind)
-        (coded-back coded
-        (filled-silent coded
-        (record { number = o .numbered i positive .0; kind = fair .typed entry (there .0); allowed = fair .allowed entry (there .0) })))
-        ∙ sym
-        (eqb-true (codedOf (placeAt places i .slot) .kind) (orderAt list entry .kind)
-        (subst (λ k. eqb (codedOf (placeAt places k .slot) .kind) (orderAt list entry .kind) ≡ true) at-i
-        (not-false _
-        (and-second (isLive places (orderAt list entry .number)) _ (fair .same-type entry (there .0))
-        (subst (λ n. isLive places n ≡ true) (sym (there .1)) (live-when places (placeAt places i .order) i (inside o i positive) refl))))))
-      where
-        at-i : placeOf places (orderAt list entry .number) ≡ i
-        at-i = ap (placeOf places) (there .1) ∙ live-at o i positive
+        let at-i : placeOf places (orderAt list entry .number) ≡ i = ap (placeOf places) (there .1) ∙ live-at o i positive in
+        let live : isLive places (orderAt list entry .number) ≡ true = live-when places (orderAt list entry .number) i (inside o i positive) (sym (there .1)) in
+        made-kind fair (there .0) number (o .numbered i positive .0)
+        ∙ (sym (type-kept places list entry fair (there .0) live) ∙ ap (λ k. codedOf (placeAt places k .slot) .kind) at-i)
 
     pub stayed : Stayed i (keptPlace list (placeAt places i))
     stayed =
         subst (λ (x : Place). Stayed i x) (sym (kept-stays list (placeAt places i) listed))
-        (record { was = positive; listed = listed; order = refl; number = refl; body = refl; kind = same-kind; held = coded-held })
+        (record { was = positive; listed = listed; order = refl; number = refl; body = refl; kind = same-kind; held = made-held fair (there .0) number (o .numbered i positive .0) })
 
   abbrev kept : List Place
   kept = map (keptPlace list) places

@@ -12,13 +12,15 @@ use native.Mathlib.Omega.{arith}
 use borrow.Author.Tests.{ltb-true, ltb-false}
 use Rattle.kit.proofs.Cases.{on, clash, given}
 use Rattle.condition.specs.Steps.{steps, gapOf}
+use Rattle.condition.proofs.Round.{gap-round, gap-only}
 use Rattle.orders.specs.Orders.{orderNamed, stands, orderAt, orderCount, listedAt, freePlace, placeAt, placeOf, isLive, slots}
 use Rattle.orders.specs.declared.Place.{Place}
 use Rattle.orders.proofs.Lists.{listed-self, Fair, listed-there, listed-when, live-there}
 use Rattle.numbers.specs.Numbers.{noneEnded, endedAt, isResting}
 use Rattle.numbers.specs.declared.Ended.{Ended}
 use Rattle.numbers.proofs.Search.{covers-resting, resting-when}
-use Rattle.desk.specs.Steps.{bodyIn, nextStep, keptPlace, endedNumbers, seatedAll, stepOf, RoomForAll}
+use Rattle.desk.specs.Steps.{bodyIn, nextStep, keptPlace, endedNumbers, seatedAll, stepOf}
+use Rattle.desk.specs.Rooms.{RoomForAll}
 use Rattle.desk.specs.declared.Desk.{Desk}
 use Rattle.desk.proofs.Endings.{kept-stays, entry-only, entry-ends, kept-at, ended-long, ended-now, ended-before}
 use Rattle.desk.proofs.Seating.{Orderly, inside, New, After, after, room-for-all}
@@ -32,13 +34,12 @@ pub record Sound (rows : ℕ) (desk : Desk) : Type 0 where
   pub aged : (r : ℕ) → 1 ≤ endedAt (desk .ended) r .number
       → (endedAt (desk .ended) r .step < steps) × (gapOf (desk .step) (endedAt (desk .ended) r .step) ≡ r / slots)
 
+-- a step's own number is no gap away, and one step on each gap is one more
 gap-same : (s : ℕ) → s < steps → gapOf s s ≡ 0
-unfolding gapOf
-gap-same s p = omega arith
+gap-same s p = sym (gap-only s s 0 (omega arith) (omega arith) (omega arith))
 
 gap-next : (s e k : ℕ) → s < steps → e < steps → k < 100 → gapOf s e ≡ k → gapOf (nextStep s) e ≡ k + 1
-unfolding gapOf
-gap-next s e k p q r h = omega arith
+gap-next s e k p q r h = sym (gap-only (nextStep s) e (k + 1) (omega arith) (omega arith) (omega (arith, gap-round s e (omega arith) .1)))
 
 -- ---- the step
 
@@ -174,32 +175,44 @@ module _ (rest rows : ℕ) (enough : rest ≤ rows) (few : rows ≤ 11) (desk : 
   moves r p =
       ap (λ (l : List Ended). endedAt l (slots + r)) next-ended ∙ ended-before list now (desk .places) (desk .ended) (sound .orderly .twenty) r (omega (arith, sound .kept))
 
-  next-aged : (r : ℕ) → 1 ≤ endedAt ended r .number → (endedAt ended r .step < steps) × (gapOf now (endedAt ended r .step) ≡ r / slots)
-  next-aged r p =
+  -- where an entry with a number comes from: from an order that ended in this step, by its slot, or from a row further in front
+  pub data Entry (r : ℕ) : Type 0 where
+    begun : r < slots → 1 ≤ placeAt (desk .places) r .order → stands list (placeAt (desk .places) r .order) ≡ false
+        → endedAt (next .ended) r ≡ record { number = placeAt (desk .places) r .slot .number; step = next .step } → Entry r
+    moved : (q : ℕ) → r ≡ slots + q → slots + q < slots * rows → endedAt (next .ended) r ≡ endedAt (desk .ended) q → Entry r
+
+  pub entry : (r : ℕ) → 1 ≤ endedAt (next .ended) r .number → Entry r
+  unfolding stepOf
+  entry r p =
       on (ltb r (slots * rows))
       (λ small.
       on (ltb r slots)
-      (λ first. fresh (ltb-true r slots first) (ltb-true r (slots * rows) small))
+      (λ first.
+      let there = ended-now list now (desk .places) (desk .ended) (sound .orderly .twenty) r (ltb-true r slots first) (omega (arith, sound .kept, ltb-true r (slots * rows) small)) in
+      given (entry-only list (placeAt (desk .places) r) now (subst (λ (x : Ended). 1 ≤ x .number) there p))
+      (λ (named, absent, e). begun (ltb-true r slots first) named absent (there ∙ e)))
       (λ later.
-      let e : slots + (r - slots) ≡ r = omega (arith, ltb-false r slots later) in
-      subst (λ k. (endedAt ended k .step < steps) × (gapOf now (endedAt ended k .step) ≡ k / slots)) e
-      (older (r - slots) (omega (arith, ltb-true r (slots * rows) small, ltb-false r slots later)) (subst (λ k. 1 ≤ endedAt ended k .number) (sym e) p))))
-      (λ big. absurd (omega (arith, ap (λ (e : Ended). e .number) (List·getD-eq-default ended noneEnded {n = r} (omega (arith, long, ltb-false r (slots * rows) big))))))
-    where
-      fresh : r < slots → r < slots * rows → (endedAt ended r .step < steps) × (gapOf now (endedAt ended r .step) ≡ r / slots)
-      fresh a b =
-          let q = ended-now list now (desk .places) (desk .ended) (sound .orderly .twenty) r a (omega (arith, sound .kept)) in
-          given (entry-only list (placeAt (desk .places) r) now (omega (arith, ap (λ (x : Ended). x .number) q)))
-          (λ (named, absent, e).
-          let same : endedAt ended r .step ≡ now = ap (λ (x : Ended). x .step) (q ∙ e) in
-          rw same (omega arith, gap-same now (omega arith) ∙ omega arith))
+      let back : r ≡ slots + (r - slots) = omega (arith, ltb-false r slots later) in
+      let inside-rows : slots + (r - slots) < slots * rows = omega (arith, ltb-true r (slots * rows) small, ltb-false r slots later) in
+      moved (r - slots) back inside-rows (ap (endedAt (next .ended)) back ∙ moves (r - slots) inside-rows)))
+      (λ big. absurd (omega (arith, ap (λ (e : Ended). e .number) (List·getD-eq-default (next .ended) noneEnded {n = r} (omega (arith, long, ltb-false r (slots * rows) big))))))
 
-      older : (q : ℕ) → slots + q < slots * rows → 1 ≤ endedAt ended (slots + q) .number
-          → (endedAt ended (slots + q) .step < steps) × (gapOf now (endedAt ended (slots + q) .step) ≡ (slots + q) / slots)
-      older q a b =
-          let e = ended-before list now (desk .places) (desk .ended) (sound .orderly .twenty) q (omega (arith, sound .kept)) in
-          given (sound .aged q (rw e at b))
-          (λ (small, age). rw e (small, gap-next (desk .step) (endedAt (desk .ended) q .step) (q / slots) (sound .below) small (omega arith) age ∙ omega arith))
+  next-aged : (r : ℕ) → 1 ≤ endedAt (next .ended) r .number → (endedAt (next .ended) r .step < steps) × (gapOf (next .step) (endedAt (next .ended) r .step) ≡ r / slots)
+  next-aged r p = go (entry r p)
+    where
+      below : next .step < steps
+      below = rw next-step (omega arith)
+
+      go : Entry r → (endedAt (next .ended) r .step < steps) × (gapOf (next .step) (endedAt (next .ended) r .step) ≡ r / slots)
+      go (begun small named absent e) = rw e (below, gap-same (next .step) below ∙ omega arith)
+      go (moved q back small e) =
+          given (sound .aged q (subst (λ (x : Ended). 1 ≤ x .number) e p))
+          (λ (early, age).
+          rw e (
+            early,
+            ap (λ n. gapOf n (endedAt (desk .ended) q .step)) next-step
+                ∙ (gap-next (desk .step) (endedAt (desk .ended) q .step) (q / slots) (sound .below) early (omega arith) age ∙ omega arith),
+          ))
 
   pub next-sound : Sound rows next
   next-sound =
@@ -207,12 +220,12 @@ module _ (rest rows : ℕ) (enough : rest ≤ rows) (few : rows ≤ 11) (desk : 
         orderly = next-orderly;
         kept = ap length next-ended ∙ long;
         below = rw next-step (omega arith);
-        aged = λ r. rw (next-ended, next-step) (next-aged r);
+        aged = next-aged;
       }
 
   -- D-12: a number that is in one of the first rows, as many as the rest, is not given
   pub not-given : (i r x : ℕ) → 1 ≤ x → r < slots * rest → endedAt (next .ended) r .number ≡ x → Placed i (placeAt (next .places) i) → placeAt (next .places) i .slot .number ≡ x → ⊥
+  unfolding stepOf
   not-given i r x p small there n same =
-      let here : endedAt ended r .number ≡ x = ap (λ (l : List Ended). endedAt l r .number) (sym next-ended) ∙ there in
-      let young : gapOf now (endedAt ended r .step) < rest = omega (arith, next-aged r (omega arith) .1) in
-      clash (resting-when rest now ended x r (omega (arith, long)) here young) (subst (λ k. isResting rest now ended k ≡ false) same (n .rested))
+      let aged : gapOf now (endedAt ended r .step) ≡ r / slots = next-aged r (omega arith) .1 in
+      clash (resting-when rest now ended x r (omega (arith, long)) there (omega arith)) (subst (λ k. isResting rest now ended k ≡ false) same (n .rested))

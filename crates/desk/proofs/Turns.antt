@@ -19,7 +19,8 @@ use Rattle.orders.proofs.Lists.{Fair, fair, listed-when, live-there, live-when}
 use Rattle.numbers.specs.Numbers.{isResting, hasNumber, isPermitted, nextNumber, numberAfter}
 use Rattle.numbers.proofs.Search.{number-first, number-some}
 use Rattle.desk.specs.Runs.{run, Accepted, EndedAgo}
-use Rattle.desk.specs.Steps.{keptPlace, seated, seatedAll, stepOf, nextStep, endedNumbers, RoomForAll}
+use Rattle.desk.specs.Steps.{keptPlace, seated, seatedAll, stepOf, nextStep, endedNumbers}
+use Rattle.desk.specs.Rooms.{RoomForAll}
 use Rattle.desk.specs.declared.Desk.{Desk}
 use Rattle.desk.specs.declared.arriving.Seats.{Seats}
 use Rattle.desk.proofs.Endings.{kept-at, kept-stays}

@@ -1,3 +1,4 @@
 pub mod Desks
+pub mod Rooms
 pub mod Runs
 pub mod Steps

@@ -14,7 +14,7 @@ unfoldable pub run : ℕ → ℕ → List (List ℕ) → Desk
 run rest rows [] = freshWith rows
 run rest rows (list ∷ earlier) = stepOf rest (run rest rows earlier) list
 
--- each of the lists is accepted when its turn comes
+-- D-02: each of the lists is accepted when its turn comes
 abbrev pub Accepted : ℕ → ℕ → List (List ℕ) → Type 0
 Accepted rest rows [] = Unit
 Accepted rest rows (list ∷ earlier) = (listRefusal (run rest rows earlier .places) list ≡ 0) × Accepted rest rows earlier

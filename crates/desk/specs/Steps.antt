@@ -1,7 +1,6 @@
 -- The step that an accepted list makes: document 01, "The list and the step", its five points.
-use Prim.Native.Nat.{ℕ, _+_, _%_, _<_}
-use mathlib.Core.Path.{_≡_}
-use mathlib.Core.Bool.{Bool, false, cond, not, _&&_}
+use Prim.Native.Nat.{ℕ, _+_, _%_}
+use mathlib.Core.Bool.{Bool, cond, not, _&&_}
 use mathlib.Core.List.{List, _++_, map}
 use lib.Dec.{eqb}
 use lib.ListN.{length, take, set}
@@ -9,7 +8,7 @@ use Rattle.kit.specs.Loops.{fold}
 use Rattle.condition.specs.Slots.{bodyOf}
 use Rattle.condition.specs.Steps.{steps}
 use Rattle.condition.specs.declared.slots.Body.{Body}
-use Rattle.orders.specs.Orders.{lowestFree, stands, orderNamed, orderAt, orderCount, freePlace, isLive, slots}
+use Rattle.orders.specs.Orders.{lowestFree, stands, orderNamed, orderAt, orderCount, freePlace, isLive}
 use Rattle.orders.specs.declared.Order.{Order}
 use Rattle.orders.specs.declared.Place.{Place}
 use Rattle.numbers.specs.Numbers.{noneEnded, isResting, nextNumber}
@@ -68,14 +67,6 @@ seated resting order seats =
 -- D-08: in list order
 unfoldable pub seatedAll : (ℕ → Bool) → List ℕ → Seats → ℕ → Seats
 seatedAll resting list seats n = fold (λ j. seated resting (orderAt list j)) seats n
-
--- D-08: an order that is not live finds a free slot
-abbrev pub Room : Order → Seats → Type 0
-Room order seats = isLive (seats .places) (order .number) ≡ false → lowestFree (seats .places) < slots
-
--- D-08: each of the first n orders does, when its turn comes
-abbrev pub RoomForAll : (ℕ → Bool) → List ℕ → Seats → ℕ → Type 0
-RoomForAll resting list seats n = (j : ℕ) → j < n → Room (orderAt list j) (seatedAll resting list seats j)
 
 -- ---- the step
 

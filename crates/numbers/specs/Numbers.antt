@@ -17,7 +17,7 @@ use Rattle.numbers.specs.declared.Ended.{Ended}
 abbrev pub noneEnded : Ended
 noneEnded = record { number = 0; step = 0 }
 
--- entry i of the ended numbers
+-- D-12: entry i of the ended numbers
 abbrev pub endedAt : List Ended → ℕ → Ended
 endedAt ended i = getD ended i noneEnded
 

@@ -9,7 +9,8 @@ use lib.ListN.{length}
 use native.Mathlib.Omega.{arith}
 use borrow.Author.Tests.{eqb-true, eqb-false, eq-eqb, ltb-true, ltb-false, not-false}
 use Rattle.kit.specs.Ladder.{Silent}
-use Rattle.kit.proofs.Cases.{on, given}
+use Rattle.kit.proofs.Cases.{on, given, and-second}
+use Rattle.condition.specs.Slots.{codedOf}
 use Rattle.kit.proofs.Ladder.{silent-each}
 use Rattle.kit.proofs.Loops.{found-there, found-none, found-when}
 use Rattle.condition.specs.Words.{isType, secondAllowed}
@@ -87,6 +88,12 @@ module _ (places : List Place) (list : List ℕ) where
 
   pub fair-length : listRefusal places list ≡ 0 → length list ≤ 200
   fair-length e = silent-length (list-accepted places list .0 e) .1
+
+  -- R-08: an order of a fair list that is live has the type that it had
+  pub type-kept : (j : ℕ) → Fair places list → j < orderCount list → isLive places (orderAt list j .number) ≡ true
+      → codedOf (placeAt places (placeOf places (orderAt list j .number)) .slot) .kind ≡ orderAt list j .kind
+  unfolding isRetyped
+  type-kept j f p live = eqb-true _ (orderAt list j .kind) (not-false _ (and-second (isLive places (orderAt list j .number)) _ (f .same-type j p) live))
 
   -- the numbers of a fair list are distinct, so the search of one finds its own order
   pub listed-self : (j : ℕ) → Fair places list → j < orderCount list → listedAt list (orderCount list) (orderAt list j .number) ≡ j

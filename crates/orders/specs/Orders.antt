@@ -34,7 +34,7 @@ orderAt list j =
 abbrev pub orderCount : List ℕ → ℕ
 orderCount list = length list / 10
 
--- which of the first n orders has this order number, or n where none has
+-- R-07, D-07: which of the first n orders has this order number, or n where none has
 unfoldable pub listedAt : List ℕ → ℕ → ℕ → ℕ
 listedAt list n number = find (λ j. eqb (orderAt list j .number) number) n
 
@@ -60,11 +60,11 @@ slots = 20
 abbrev pub freePlace : Place
 freePlace = record { order = 0; slot = emptySlot }
 
--- place i
+-- W-01: place i of the twenty
 abbrev pub placeAt : List Place → ℕ → Place
 placeAt places i = getD places i freePlace
 
--- the lowest place that an order has, or 20 where it has none
+-- A-01: the lowest place that an order has, or 20 where it has none
 unfoldable pub placeOf : List Place → ℕ → ℕ
 placeOf places order = find (λ i. eqb (placeAt places i .order) order) slots
 

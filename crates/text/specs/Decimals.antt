@@ -4,11 +4,11 @@ use mathlib.Core.Bool.{cond}
 use mathlib.Core.List.{List, [], _∷_, _++_}
 use lib.Dec.{ltb}
 
--- the last digit, in ASCII
+-- A-35: the last digit, in ASCII
 abbrev pub digit : ℕ → List ℕ
 digit n = (48 + n % 10) ∷ []
 
--- all digits, the last one after those of a tenth of the number, but for no leading zero; `most` is as many digits as there can be
+-- A-35: all digits, the last one after those of a tenth of the number, but for no leading zero; `most` is as many digits as there can be
 -- before the last
 unfoldable pub digits : ℕ → ℕ → List ℕ
 digits zero n = digit n

@@ -12,7 +12,8 @@ use Rattle.numbers.specs.declared.Ended.{Ended}
 use Rattle.desk.specs.declared.Desk.{Desk}
 use Rattle.desk.specs.declared.arriving.Seats.{Seats}
 use Rattle.desk.specs.Desks.{rest, Made}
-use Rattle.desk.specs.Steps.{nextStep, keptPlace, endedNumbers, seatedAll, RoomForAll, stepOf}
+use Rattle.desk.specs.Steps.{nextStep, keptPlace, endedNumbers, seatedAll, stepOf}
+use Rattle.desk.specs.Rooms.{RoomForAll}
 use Rattle.desk.proofs.Making.{made-sound, room-made}
 use Rattle.desk.proofs.advance.Statement.{statement}
 use Rattle.desk.proofs.advance.Tie as tie

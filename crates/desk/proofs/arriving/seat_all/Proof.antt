@@ -9,7 +9,8 @@ use Rattle.orders.specs.Orders.{orderAt, orderCount}
 use Rattle.orders.specs.declared.Order.{Order}
 use Rattle.numbers.specs.Numbers.{isResting}
 use Rattle.desk.specs.Desks.{rest}
-use Rattle.desk.specs.Steps.{seated, seatedAll, Room, RoomForAll}
+use Rattle.desk.specs.Steps.{seated, seatedAll}
+use Rattle.desk.specs.Rooms.{Room, RoomForAll}
 use Rattle.desk.specs.declared.arriving.Seats.{Seats}
 use Rattle.desk.proofs.arriving.seat_all.Statement.{statement}
 use Rattle.desk.proofs.arriving.seat_all.Tie as tie
