@@ -23,3 +23,7 @@ atListWords = 32 ∷ 97 ∷ 116 ∷ 32 ∷ 108 ∷ 105 ∷ 115 ∷ 116 ∷ 32 �
 -- `refused N at list I` and a line feed
 unfoldable pub refusedLine : ℕ → ℕ → List ℕ
 refusedLine number list = refusedWord ++ (decimal number ++ (atListWords ++ (decimal list ++ (10 ∷ []))))
+
+-- `short list` and a line feed
+unfoldable pub shortLine : List ℕ
+shortLine = 115 ∷ 104 ∷ 111 ∷ 114 ∷ 116 ∷ 32 ∷ 108 ∷ 105 ∷ 115 ∷ 116 ∷ 10 ∷ []

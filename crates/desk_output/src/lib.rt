@@ -1,10 +1,11 @@
-// What the program run_desk writes: the table of a desk as its five telegrams, and a line for each list that is refused.
+// What the program run_desk writes: the table of a desk as its five telegrams, a line for each list that is refused, and one where
+// the input ends inside a list.
 use desk::Desk;
 ghost use Prim.Native.Nat.{_≤_};
 ghost use Rattle.kit.specs.Put.{Poured};
 ghost use Rattle.telegram.specs.Telegrams.{bytesOf};
 ghost use Rattle.desk.specs.Desks.{telegramOf};
-ghost use Rattle.desk_output.specs.Outputs.{tableBytes, refusedLine};
+ghost use Rattle.desk_output.specs.Outputs.{tableBytes, refusedLine, shortLine};
 
 // One packet of the table.
 fn put_packet(desk: Desk, packet: u8, out: &mut [u8], at: usize) -> usize
@@ -36,4 +37,11 @@ pub fn put_refused(number: u8, list: u64, line: &mut [u8], at: usize) -> usize
     let third = text::put_words(line, second, b" at list ");
     let fourth = text::put_decimal(line, third, list);
     text::put_byte(line, fourth, 10)
+}
+
+// `short list` and a line feed.
+pub fn put_short(line: &mut [u8], at: usize) -> usize
+    ensures { λ r. ⌜ Poured (now (line .entry)) at shortLine (now (line .exit)) r ⌝ }
+{
+    text::put_words(line, at, b"short list\n")
 }

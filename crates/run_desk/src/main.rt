@@ -28,7 +28,7 @@ fn main() {
                 return;
             }
             Input::Short => {
-                io::write_all(STDERR_FILENO, b"short list\n");
+                show_short();
                 return;
             }
             Input::List(length) => {
@@ -83,4 +83,10 @@ fn show_refused(number: u8, lists: u64) {
     let mut line = [0u8; 64];
     let n = desk_output::put_refused(number, lists, &mut line, 0);
     io::write_all(STDERR_FILENO, &line[..n]);
+}
+
+fn show_short() {
+    let mut line = [0u8; 11];
+    desk_output::put_short(&mut line, 0);
+    io::write_all(STDERR_FILENO, &line);
 }

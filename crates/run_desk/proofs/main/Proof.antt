@@ -9,10 +9,10 @@ use Rattle.run_desk.proofs.main.Statement.{statement}
 use Rattle.run_desk.proofs.main.Tie as tie
 
 abbrev Inv-loop : tie.InvT-loop
-Inv-loop desk₀ lists₀ t6 desk lists = Made desk
+Inv-loop desk₀ lists₀ desk lists = Made desk
 
 abbrev μ-loop : tie.MeasureT-loop
-μ-loop desk₀ lists₀ t6 desk lists = 18446744073709551615 - lists
+μ-loop desk₀ lists₀ desk lists = 18446744073709551615 - lists
 
 fresh-requires : tie.Need-fresh-requires Inv-loop μ-loop
 fresh-requires c κs = search needs
@@ -38,11 +38,8 @@ returns c = search needs
 enum-told-2 : tie.Need-enum-told-2 Inv-loop μ-loop
 enum-told-2 c = search needs
 
-slice-aggregate-write-all : tie.Need-slice-aggregate-write-all Inv-loop μ-loop
-slice-aggregate-write-all c = search needs
-
-write-all-requires : tie.Need-write-all-requires Inv-loop μ-loop
-write-all-requires c κs = search needs
+show-short-requires : tie.Need-show-short-requires Inv-loop μ-loop
+show-short-requires c κs = search needs
 
 returns-2 : tie.Need-returns-2 Inv-loop μ-loop
 returns-2 c = search needs
@@ -89,8 +86,7 @@ main-spec =
     enum-told
     returns
     enum-told-2
-    slice-aggregate-write-all
-    write-all-requires
+    show-short-requires
     returns-2
     enum-known-input
     cast-bytes
