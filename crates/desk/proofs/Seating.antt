@@ -32,13 +32,17 @@ use Rattle.desk.specs.Steps.{bodyIn, seated, seatedAll}
 use Rattle.desk.specs.Rooms.{RoomForAll}
 use Rattle.desk.specs.declared.arriving.Seats.{Seats}
 
+-- no two places share what `of` says of them, but for 0
+abbrev pub Distinct : (Place → ℕ) → List Place → Type 0
+Distinct of places = (i j : ℕ) → 1 ≤ of (placeAt places i) → of (placeAt places i) ≡ of (placeAt places j) → i ≡ j
+
 -- what is true of a desk's places (READINGS 3.4, d1 to d3)
 pub record Orderly (places : List Place) : Type 0 where
   pub twenty : length places ≡ slots
   pub free : (i : ℕ) → placeAt places i .order ≡ 0 → placeAt places i ≡ freePlace
   pub numbered : (i : ℕ) → 1 ≤ placeAt places i .order → (1 ≤ placeAt places i .slot .number) × (placeAt places i .slot .number ≤ 255)
-  pub apart : (i j : ℕ) → 1 ≤ placeAt places i .slot .number → placeAt places i .slot .number ≡ placeAt places j .slot .number → i ≡ j
-  pub single : (i j : ℕ) → 1 ≤ placeAt places i .order → placeAt places i .order ≡ placeAt places j .order → i ≡ j
+  pub apart : Distinct (λ place. place .slot .number) places
+  pub single : Distinct (λ place. place .order) places
   pub held : (i : ℕ) → Held (placeAt places i .slot)
 
 module _ {places : List Place} (o : Orderly places) where
@@ -122,17 +126,12 @@ module _ (places : List Place) (o : Orderly places) (new : Place) (named : 1 ≤
   taken-numbered i (inl (here, e)) p = rw e (positive, small)
   taken-numbered i (inr e) p = rw e (o .numbered i (rw e at p))
 
-  taken-apart : (i j : ℕ) → Spot places new i → Spot places new j → 1 ≤ placeAt beyond i .slot .number → placeAt beyond i .slot .number ≡ placeAt beyond j .slot .number → i ≡ j
-  taken-apart i j (inl (a, d)) (inl (b, e)) p q = a ∙ sym b
-  taken-apart i j (inl (a, d)) (inr e) p q = absurd (no-number j (sym (rw (d, e) at q)))
-  taken-apart i j (inr d) (inl (b, e)) p q = absurd (no-number i (rw (d, e) at q))
-  taken-apart i j (inr d) (inr e) p q = o .apart i j (rw d at p) (rw (d, e) at q)
-
-  taken-single : (i j : ℕ) → Spot places new i → Spot places new j → 1 ≤ placeAt beyond i .order → placeAt beyond i .order ≡ placeAt beyond j .order → i ≡ j
-  taken-single i j (inl (a, d)) (inl (b, e)) p q = a ∙ sym b
-  taken-single i j (inl (a, d)) (inr e) p q = absurd (no-order j (sym (rw (d, e) at q)))
-  taken-single i j (inr d) (inl (b, e)) p q = absurd (no-order i (rw (d, e) at q))
-  taken-single i j (inr d) (inr e) p q = o .single i j (rw d at p) (rw (d, e) at q)
+  taken-distinct : (of : Place → ℕ) → Distinct of places → ((i : ℕ) → of (placeAt places i) ≡ of new → ⊥) → (i j : ℕ) → Spot places new i → Spot places new j
+      → 1 ≤ of (placeAt beyond i) → of (placeAt beyond i) ≡ of (placeAt beyond j) → i ≡ j
+  taken-distinct of distinct none i j (inl (a, d)) (inl (b, e)) p q = a ∙ sym b
+  taken-distinct of distinct none i j (inl (a, d)) (inr e) p q = absurd (none j (sym (rw (d, e) at q)))
+  taken-distinct of distinct none i j (inr d) (inl (b, e)) p q = absurd (none i (rw (d, e) at q))
+  taken-distinct of distinct none i j (inr d) (inr e) p q = distinct i j (rw d at p) (rw (d, e) at q)
 
   taken-held : (i : ℕ) → Spot places new i → Held (placeAt beyond i .slot)
   taken-held i (inl (here, e)) = rw e held
@@ -144,8 +143,8 @@ module _ (places : List Place) (o : Orderly places) (new : Place) (named : 1 ≤
         twenty = length-set places (placeOf places 0) new ∙ o .twenty;
         free = λ i. taken-free i (here-or-there i);
         numbered = λ i. taken-numbered i (here-or-there i);
-        apart = λ i j. taken-apart i j (here-or-there i) (here-or-there j);
-        single = λ i j. taken-single i j (here-or-there i) (here-or-there j);
+        apart = λ i j. taken-distinct (λ place. place .slot .number) (o .apart) no-number i j (here-or-there i) (here-or-there j);
+        single = λ i j. taken-distinct (λ place. place .order) (o .single) no-order i j (here-or-there i) (here-or-there j);
         held = λ i. taken-held i (here-or-there i);
       }
 

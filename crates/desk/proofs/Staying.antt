@@ -14,7 +14,7 @@ use Rattle.orders.specs.declared.Place.{Place}
 use Rattle.orders.proofs.Lists.{Fair, listed-there, live-when, type-kept}
 use Rattle.desk.specs.Steps.{stays, bodyIn, keptPlace}
 use Rattle.desk.proofs.Endings.{kept-stays, kept-ends, kept-at}
-use Rattle.desk.proofs.Seating.{Orderly, inside, live-at, made-held, made-kind}
+use Rattle.desk.proofs.Seating.{Distinct, Orderly, inside, live-at, made-held, made-kind}
 
 module _ {places : List Place} (o : Orderly places) {list : List ℕ} (fair : Fair places list) where
   -- what a place is whose order stays: slot, number and type are as before, and the words are the list's (D-07)
@@ -73,15 +73,11 @@ module _ {places : List Place} (o : Orderly places) {list : List ℕ} (fair : Fa
   kept-numbered i (inl s) p = rw (s .number) (o .numbered i (s .was))
   kept-numbered i (inr e) p = absurd (omega (arith, rw e at p))
 
-  kept-apart : (i j : ℕ) → Case i → Case j → 1 ≤ placeAt kept i .slot .number → placeAt kept i .slot .number ≡ placeAt kept j .slot .number → i ≡ j
-  kept-apart i j (inl s) (inl t) p q = o .apart i j (omega (arith, s .number)) (rw (s .number, t .number) at q)
-  kept-apart i j (inl s) (inr e) p q = absurd (omega (arith, rw e at q))
-  kept-apart i j (inr e) t p q = absurd (omega (arith, rw e at p))
-
-  kept-single : (i j : ℕ) → Case i → Case j → 1 ≤ placeAt kept i .order → placeAt kept i .order ≡ placeAt kept j .order → i ≡ j
-  kept-single i j (inl s) (inl t) p q = o .single i j (s .was) (rw (s .order, t .order) at q)
-  kept-single i j (inl s) (inr e) p q = absurd (omega (arith, rw e at q))
-  kept-single i j (inr e) t p q = absurd (omega (arith, rw e at p))
+  kept-distinct : (of : Place → ℕ) → of freePlace ≡ 0 → ((i : ℕ) → Stayed i (placeAt kept i) → of (placeAt kept i) ≡ of (placeAt places i)) → Distinct of places
+      → (i j : ℕ) → Case i → Case j → 1 ≤ of (placeAt kept i) → of (placeAt kept i) ≡ of (placeAt kept j) → i ≡ j
+  kept-distinct of zero same distinct i j (inl s) (inl t) p q = distinct i j (omega (arith, same i s)) (sym (same i s) ∙ (q ∙ same j t))
+  kept-distinct of zero same distinct i j (inl s) (inr e) p q = absurd (omega (arith, ap of e ∙ zero))
+  kept-distinct of zero same distinct i j (inr e) t p q = absurd (omega (arith, ap of e ∙ zero))
 
   kept-held : (i : ℕ) → Case i → Held (placeAt kept i .slot)
   kept-held i (inl s) = s .held
@@ -93,8 +89,8 @@ module _ {places : List Place} (o : Orderly places) {list : List ℕ} (fair : Fa
         twenty = length-map places (keptPlace list) ∙ o .twenty;
         free = λ i. kept-free i (case i);
         numbered = λ i. kept-numbered i (case i);
-        apart = λ i j. kept-apart i j (case i) (case j);
-        single = λ i j. kept-single i j (case i) (case j);
+        apart = λ i j. kept-distinct (λ place. place .slot .number) refl (λ k s. s .number) (o .apart) i j (case i) (case j);
+        single = λ i j. kept-distinct (λ place. place .order) refl (λ k s. s .order) (o .single) i j (case i) (case j);
         held = λ i. kept-held i (case i);
       }
 
