@@ -2,7 +2,6 @@
 use Prim.Native.Nat.{ℕ}
 use mathlib.Core.Path.{_≡_, refl, sym, ap, _∙_, subst}
 use mathlib.Core.List.{List, [], _∷_, map}
-use mathlib.Core.Bool.{cond}
 use lib.Dec.{eqb}
 use native.Mathlib.Omega.{arith}
 use borrow.Author.Tests.{eqb-true, eqb-false, ne-eqb}
@@ -24,16 +23,12 @@ module _ (figure : ℕ) (desk : Desk) (list : List ℕ) where
   -- D-02: an accepted list makes a step
   pub accepts : listRefusal (desk .places) list ≡ 0 → acceptOf figure desk list ≡ record { verdict = accepted; desk = stepOf figure desk list }
   unfolding acceptOf
-  accepts e =
-      let next : cond (eqb (listRefusal (desk .places) list) 0) (stepOf figure desk list) desk ≡ stepOf figure desk list = rw e refl in
-      λ i. record { verdict = verdict-accepted (listRefusal (desk .places) list) e i; desk = next i }
+  accepts e = rw e (λ i. record { verdict = verdict-accepted 0 refl i; desk = stepOf figure desk list })
 
   -- D-18, R-24: a refused one changes nothing, the rests included
   pub refuses : (listRefusal (desk .places) list ≡ 0 → ⊥) → acceptOf figure desk list ≡ record { verdict = Refused (listRefusal (desk .places) list); desk = desk }
   unfolding acceptOf
-  refuses n =
-      let same : cond (eqb (listRefusal (desk .places) list) 0) (stepOf figure desk list) desk ≡ desk = rw (ne-eqb (listRefusal (desk .places) list) 0 n) refl in
-      λ i. record { verdict = verdict-refused (listRefusal (desk .places) list) n i; desk = same i }
+  refuses n = rw (ne-eqb (listRefusal (desk .places) list) 0 n) (λ i. record { verdict = verdict-refused (listRefusal (desk .places) list) n i; desk = desk })
 
 -- the accepted lists of a desk that was made
 pub made-run : {desk : Desk} → Made desk → (h : List (List ℕ)) × Accepted rest rest h × (desk ≡ run rest rest h)
