@@ -1,1 +1,4 @@
-pub mod Paper
+pub mod Demand3
+pub mod Following
+pub mod History
+pub mod Sequences

@@ -1,1 +1,3 @@
-pub mod Reckoned
+pub mod Calls
+pub mod Demand3
+pub mod Hearings

@@ -8,11 +8,11 @@ use lib.Dec.{eqb, ltb, leb}
 use native.Mathlib.Omega.{arith}
 use borrow.Author.Tests.{eqb-true, eqb-false, ltb-true, leb-true, ne-eqb, lt-ltb, le-leb, not-false}
 use Rattle.kit.specs.Ladder.{ladder, Decides, Silent, Numbered}
-use Rattle.kit.proofs.Cases.{on, given, and-both, and-second, above-zero}
+use Rattle.kit.proofs.Cases.{on, clash, given, and-both, and-second, above-zero}
 use Rattle.kit.proofs.Ladder.{ladder-silent}
 use Rattle.condition.specs.Distances.{noValue}
 use Rattle.condition.specs.Words.{isType, isConsidered, secondAllowed, secondHeld}
-use Rattle.condition.specs.Slots.{bodyOf, slotRows, slotIn, slotOf, coding, codedOf, settled, HeldBody, Held}
+use Rattle.condition.specs.Slots.{isFilled, isOccupied, bodyOf, slotRows, slotIn, slotOf, coding, codedOf, settled, HeldBody, Held}
 use Rattle.condition.specs.declared.slots.Body.{Body}
 use Rattle.condition.specs.declared.slots.Body.the-variants.{Empty, Area, Traction, Current}
 use Rattle.condition.specs.declared.slots.Coded.{Coded}
@@ -230,3 +230,13 @@ slot-refused c = refused-when (slotRows c) (slot-numbered c)
 pub slot-accepted : (c : Coded) → (slotOf c .verdict ≡ Accepted) ↔ Silent (slotRows c)
 unfolding slotOf
 slot-accepted c = accepted-when (slotRows c) (slot-numbered c)
+
+-- of what a desk or a reader holds, the occupied slots are those with a number
+occupied-by : (number : ℕ) (body : Body) → HeldBody number body → (isFilled body ≡ true) ↔ (0 < number)
+occupied-by number Empty h = (λ e. absurd (clash e refl), λ p. absurd (omega arith))
+occupied-by number (Area kind entry exit) h = (λ e. h .0, λ p. refl)
+occupied-by number (Traction change country voltage) h = (λ e. h .0, λ p. refl)
+occupied-by number (Current change limit) h = (λ e. h .0, λ p. refl)
+
+pub held-occupied : (x : Slot) → Held x → (isOccupied x ≡ true) ↔ (0 < x .number)
+held-occupied x = occupied-by (x .number) (x .body)

@@ -20,6 +20,17 @@ use Rattle.condition.specs.declared.slots.SlotReading.{SlotReading}
 abbrev pub emptySlot : Slot
 emptySlot = record { number = 0; body = Empty }
 
+-- T-05, A-38: a slot is occupied unless its body is the empty one
+abbrev pub isFilled : Body → Bool
+isFilled Empty = false
+isFilled (Area kind entry exit) = true
+isFilled (Traction change country voltage) = true
+isFilled (Current change limit) = true
+
+-- the same, of the slot
+abbrev pub isOccupied : Slot → Bool
+isOccupied x = isFilled (x .body)
+
 -- K-01 to K-04, K-11: the body that a type and two words make; bits 13..4 are the country, bits 3..0 the voltage
 unfoldable pub bodyOf : ℕ → ℕ → ℕ → Body
 bodyOf kind first second =
@@ -59,6 +70,10 @@ coding number (Current change limit) = record { number = number; kind = 5; first
 -- the same, of the slot
 unfoldable pub codedOf : Slot → Coded
 codedOf x = coding (x .number) (x .body)
+
+-- K-01 to K-04: the type of a slot, 0 of an empty one
+abbrev pub kindOf : Slot → ℕ
+kindOf x = codedOf x .kind
 
 -- K-11: what is left of a coded slot when it is read and written again: its second word as it is held
 abbrev pub settled : Coded → Coded

@@ -1,6 +1,6 @@
 // A slot, and the number, type and two words that code it.
 ghost use mathlib.Core.Path.{_≡_};
-ghost use Rattle.condition.specs.Slots.{emptySlot, bodyOf, slotRefusal, slotOf, codedOf};
+ghost use Rattle.condition.specs.Slots.{emptySlot, isOccupied, bodyOf, slotRefusal, slotOf, codedOf};
 use crate::verdicts::Verdict;
 use crate::words::COUNTRIES;
 use crate::words::CURRENT;
@@ -41,6 +41,18 @@ impl Slot {
         Slot {
             number: 0,
             body: Body::Empty,
+        }
+    }
+
+    pub fn is_occupied(self) -> bool
+        ensures { λ r. ⌜ r ≡ isOccupied self ⌝ }
+    {
+        let body = self.body;
+        match body {
+            Body::Empty => false,
+            Body::Area { .. } => true,
+            Body::Traction { .. } => true,
+            Body::Current { .. } => true,
         }
     }
 }

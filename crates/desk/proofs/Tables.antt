@@ -2,19 +2,20 @@
 use Prim.Native.Nat.{ℕ, _+_, _/_, _%_, _<_, _≤_}
 use mathlib.Core.Path.{_≡_, refl, sym, ap, _∙_, subst}
 use mathlib.Core.List.{List}
-use lib.ListN.{length, getD, List·getD-map}
+use lib.ListN.{length, getD, length-map, List·getD-map}
 use native.Mathlib.Omega.{arith}
 use borrow.Author.Tests.{le-leb, eq-eqb}
 use Rattle.condition.specs.Slots.{emptySlot, Held}
 use Rattle.condition.specs.declared.slots.Slot.{Slot}
 use Rattle.condition.specs.declared.verdicts.Verdict.the-variants.{Accepted}
 use Rattle.telegram.specs.Sendable.{Sendable}
+use Rattle.telegram.specs.Tables.{fourOf}
 use Rattle.telegram.specs.Telegrams.{readOf, bytesOf, written}
 use Rattle.telegram.specs.declared.Telegram.{Telegram}
 use Rattle.telegram.proofs.Refusals.{writing-accepted, accepted-written}
 use Rattle.telegram.proofs.Carried.{table-sendable, slot-carried}
 use Rattle.telegram.proofs.ReadAgain.{read-again}
-use Rattle.orders.specs.Orders.{freePlace, placeAt}
+use Rattle.orders.specs.Orders.{freePlace, placeAt, slots}
 use Rattle.orders.specs.declared.Place.{Place}
 use Rattle.desk.specs.Desks.{tableOf, telegramOf}
 use Rattle.desk.specs.declared.Desk.{Desk}
@@ -25,11 +26,20 @@ pub table-at : (desk : Desk) (i : ℕ) → getD (tableOf desk) i emptySlot ≡ p
 unfolding tableOf
 table-at desk i = List·getD-map (λ (place : Place). place .slot) (desk .places) i freePlace
 
+-- a packet has the desk's step number and four slots of its table
+pub telegram-is : (desk : Desk) (packet : ℕ) → telegramOf desk packet ≡ record { packet = packet; step = desk .step; slots = fourOf (tableOf desk) packet }
+unfolding telegramOf
+telegram-is desk packet = refl
+
 module _ {rows : ℕ} {desk : Desk} (sound : Sound rows desk) where
-  table-held : (i : ℕ) → Held (getD (tableOf desk) i emptySlot)
+  pub table-long : length (tableOf desk) ≡ slots
+  unfolding tableOf
+  table-long = length-map (desk .places) (λ (place : Place). place .slot) ∙ sound .orderly .twenty
+
+  pub table-held : (i : ℕ) → Held (getD (tableOf desk) i emptySlot)
   table-held i = subst Held (sym (table-at desk i)) (sound .orderly .held i)
 
-  table-distinct : (i j : ℕ) → i < j → 0 < getD (tableOf desk) i emptySlot .number
+  pub table-distinct : (i j : ℕ) → i < j → 0 < getD (tableOf desk) i emptySlot .number
       → getD (tableOf desk) i emptySlot .number ≡ getD (tableOf desk) j emptySlot .number → ⊥
   table-distinct i j p positive same =
       let e : i ≡ j = sound .orderly .apart i j (subst (λ (x : Slot). 0 < x .number) (table-at desk i) positive)

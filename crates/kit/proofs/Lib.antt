@@ -7,3 +7,4 @@ pub mod Loops
 pub mod Maps
 pub mod Member
 pub mod Put
+pub mod Stores

@@ -1,12 +1,12 @@
 -- Laws of loops, in the loop's own form: what stands at index k of n is `.. k (n - k)`, and a turn takes it to `.. (k + 1) (n - (k + 1))`.
 use Prim.Native.Nat.{ℕ, zero, suc, _+_, _-_, _<_, _≤_}
 use mathlib.Core.Path.{_≡_, refl, sym, ap, _∙_}
-use mathlib.Core.Bool.{Bool, true, false}
+use mathlib.Core.Bool.{Bool, true, false, cond}
 use lib.Dec.{eqb}
 use native.Mathlib.Omega.{arith}
 use borrow.Author.Tests.{eqb-true, eqb-false, eq-eqb, ne-eqb, ltb-true, ltb-false}
 use native.Mathlib.Numerals.{add-one}
-use Rattle.kit.specs.Loops.{scan, fold, any, first, find, found}
+use Rattle.kit.specs.Loops.{scan, fold, any, first, find, found, count}
 use Rattle.kit.proofs.Cases.{on, clash, given}
 
 left-suc : (n k : ℕ) → k < n → n - k ≡ suc (n - (k + 1))
@@ -105,6 +105,9 @@ module _ (test : ℕ → Bool) where
       (λ t. (k, omega arith, omega arith, t))
       (λ t. given (any-some (k + 1) n (rw t at h)) (λ (j, a, b, e). (j, omega arith, omega arith, e)))
 
+  pub any-when : (k n j : ℕ) → k ≤ j → j < k + n → test j ≡ true → any test k n ≡ true
+  any-when k n j p q t = on (any test k n) (λ e. e) (λ e. absurd (clash t (any-none k n e j p q)))
+
 module _ {A : Type 0} (turn : ℕ → A → A) (start : A) where
   pub fold-none : fold turn start 0 ≡ start
   unfolding fold
@@ -117,3 +120,45 @@ module _ {A : Type 0} (turn : ℕ → A → A) (start : A) where
   -- the turn of a loop: what stands is the fold so far, and the body gives the next
   pub fold-turn : (now next : A) (k : ℕ) → now ≡ fold turn start k → next ≡ turn k now → next ≡ fold turn start (k + 1)
   fold-turn now next k e g = g ∙ (ap (turn k) e ∙ sym (fold-more k))
+
+-- a count: at most all, and all exactly when each passes
+module _ (test : ℕ → Bool) where
+  -- one turn of a loop that counts
+  pub count-turn : (now next k : ℕ) → now ≡ count test k → next ≡ cond (test k) (now + 1) now → next ≡ count test (k + 1)
+  unfolding count
+  count-turn = fold-turn (λ i so-far. cond (test i) (so-far + 1) so-far) 0
+
+  pub count-none : count test 0 ≡ 0
+  unfolding count
+  count-none = fold-none (λ i so-far. cond (test i) (so-far + 1) so-far) 0
+
+  count-suc : (n : ℕ) → count test (suc n) ≡ cond (test n) (count test n + 1) (count test n)
+  unfolding count fold
+  count-suc n = refl
+
+  pub count-most : (n : ℕ) → count test n ≤ n
+  count-most zero = omega (arith, count-none)
+  count-most (suc n) =
+      on (test n)
+      (λ t. rw (count-suc n, t) (omega (arith, count-most n)))
+      (λ t. rw (count-suc n, t) (omega (arith, count-most n)))
+
+  pub count-all : (n : ℕ) → ((k : ℕ) → k < n → test k ≡ true) → count test n ≡ n
+  count-all zero each = count-none
+  count-all (suc n) each = rw (count-suc n, each n (omega arith)) (omega (arith, count-all n (λ k p. each k (omega arith))))
+
+  pub all-counted : (n : ℕ) → count test n ≡ n → (k : ℕ) → k < n → test k ≡ true
+  all-counted zero full k p = absurd (omega arith)
+  all-counted (suc n) full k p =
+      on (test n)
+      (λ t.
+      on (eqb k n)
+      (λ e. rw (eqb-true k n e) t)
+      (λ e. all-counted n (omega (arith, rw (count-suc n, t) at full)) k (omega (arith, eqb-false k n e))))
+      (λ t. absurd (omega (arith, count-most n, rw (count-suc n, t) at full)))
+
+-- tests that agree count the same
+pub count-same : (f g : ℕ → Bool) (n : ℕ) → ((k : ℕ) → k < n → f k ≡ g k) → count f n ≡ count g n
+unfolding count fold
+count-same f g zero same = refl
+count-same f g (suc n) same = rw (same n (omega arith), count-same f g n (λ k p. same k (omega arith))) refl

@@ -29,3 +29,7 @@ find test n = scan test (λ i. i) n 0 n
 -- whether there is one
 abbrev pub found : (ℕ → Bool) → ℕ → Bool
 found test n = ltb (find test n) n
+
+-- how many of 0 to n - 1 pass the test
+unfoldable pub count : (ℕ → Bool) → ℕ → ℕ
+count test n = fold (λ i so-far. cond (test i) (so-far + 1) so-far) 0 n

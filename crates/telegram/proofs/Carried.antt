@@ -2,7 +2,7 @@
 use Prim.Native.Nat.{ℕ, _+_, _/_, _%_, _<_, _≤_}
 use mathlib.Core.Path.{_≡_, refl, sym, ap, _∙_, subst}
 use mathlib.Core.List.{List}
-use lib.ListN.{getD}
+use lib.ListN.{length, getD}
 use native.Mathlib.Omega.{arith}
 use Rattle.condition.specs.Slots.{emptySlot, Held}
 use Rattle.condition.specs.Steps.{steps}
@@ -16,6 +16,10 @@ pub four-at : (table : List Slot) (packet k : ℕ) → k < 4 → getD (fourOf ta
 unfolding fourOf
 four-at table packet k p =
     four-each (λ n x. n < 4 → x ≡ carriedSlot table packet n) (carriedSlot table packet) (λ n below q. refl) (λ n past q. absurd (omega arith)) k p
+
+pub four-long : (table : List Slot) (packet : ℕ) → length (fourOf table packet) ≡ 4
+unfolding fourOf
+four-long table packet = refl
 
 -- slot i is place i % 4 of packet 3 + i / 4, which is one of 3 to 7
 pub slot-carried : (table : List Slot) (i : ℕ) → i < 20 → (3 + i / 4 ≤ 7) × (getD (fourOf table (3 + i / 4)) (i % 4) emptySlot ≡ getD table i emptySlot)

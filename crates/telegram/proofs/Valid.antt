@@ -10,7 +10,9 @@ use borrow.Author.Tests.{eqb-true, eqb-false, ltb-false, lt-ltb, not-false}
 use Rattle.kit.specs.Bytes.{Bytes}
 use Rattle.kit.specs.Ladder.{ladder, Silent}
 use Rattle.kit.proofs.Cases.{on, and-second}
-use Rattle.kit.proofs.Ladder.{passed-exactly, silent-append, silent-each}
+use Rattle.condition.specs.declared.verdicts.Verdict.the-variants.{Accepted}
+use Rattle.telegram.proofs.Refusals.{reading-accepted}
+use Rattle.kit.proofs.Ladder.{ladder-silent, passed-exactly, silent-append, silent-each}
 use Rattle.kit.proofs.Loops.{any-none}
 use Rattle.condition.specs.Slots.{emptySlot, slotRows, Held}
 use Rattle.condition.proofs.Coding.{read-held}
@@ -83,3 +85,9 @@ read-sendable bytes fits s =
       held = held-read bytes s;
       distinct = distinct-read bytes s;
     }
+
+pub accepted-sendable : (bytes : List ℕ) → Bytes bytes → readOf bytes .verdict ≡ Accepted → Sendable (readOf bytes .telegram)
+accepted-sendable bytes fits accepted =
+    let s : Silent (readRows bytes) = reading-accepted bytes .0 accepted in
+    let z : 0 ≡ ladder 0 (readRows bytes) = sym (ladder-silent 0 (readRows bytes) s) in
+    subst (λ r. Sendable (r .telegram)) (sym (read-accepted bytes 0 z refl)) (read-sendable bytes fits s)

@@ -4,9 +4,7 @@
 use condition::Slot;
 use condition::Verdict;
 ghost use mathlib.Core.Path.{_≡_};
-ghost use lib.ListN.{getD};
-ghost use Rattle.condition.specs.Slots.{emptySlot};
-ghost use Rattle.telegram.specs.Tables.{firstSlot, fourOf};
+ghost use Rattle.telegram.specs.Tables.{tableSlot, firstSlot, fourOf};
 
 // How many bytes a telegram has, and the packets that carry a table.
 pub const LENGTH: usize = 26;
@@ -14,6 +12,9 @@ pub const LENGTH: usize = 26;
 pub const FIRST_PACKET: u8 = 3;
 
 pub const LAST_PACKET: u8 = 7;
+
+// How many slots a table has.
+pub const SLOTS: usize = 20;
 
 pub struct Telegram {
     pub packet: u8,
@@ -27,10 +28,11 @@ pub struct Reading {
     pub telegram: Telegram,
 }
 
-fn slot_in(table: [Slot; 20], i: usize) -> Slot
-    ensures { λ r. ⌜ r ≡ getD table i emptySlot ⌝ }
+// Slot i of a table, and past its end an empty one.
+pub fn slot_in(table: [Slot; 20], i: usize) -> Slot
+    ensures { λ r. ⌜ r ≡ tableSlot table i ⌝ }
 {
-    if i < 20 {
+    if i < SLOTS {
         return table[i];
     }
     Slot::empty()

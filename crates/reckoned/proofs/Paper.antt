@@ -17,7 +17,7 @@ use Rattle.numbers.specs.Numbers.{restsBy, isResting, hasNumber, nextNumber}
 use Rattle.desk.specs.Desks.{freshWith}
 use Rattle.desk.specs.Runs.{run}
 use Rattle.desk.specs.Steps.{keptPlace, endedEntry, endedNumbers, seated, seatedAll, stepOf}
-use Rattle.claims.specs.Reckoned.{Row, paper, desk-rows, p5-wrap, order, orders, wholly-new, one-stays, empty, numbers, from, alone, refusal, to-255, before-the-wrap}
+use Rattle.reckoned.specs.Reckoned.{Row, paper, desk-rows, p5-wrap, order, orders, wholly-new, one-stays, empty, numbers, from, alone, refusal, to-255, before-the-wrap}
 
 -- whether two lists of numbers are the same, as a test that computes; and what the test says
 same : List ℕ → List ℕ → Bool

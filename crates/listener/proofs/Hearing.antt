@@ -1,0 +1,76 @@
+-- The ways through hearing, one law each: what is refused, the two repeats, a telegram that is held, a set that clashes and a table
+-- that is taken.
+use Prim.Native.Nat.{ℕ}
+use mathlib.Core.Path.{_≡_, refl, ap}
+use mathlib.Core.Bool.{true, false}
+use lib.Dec.{ltb}
+use lib.ListN.{replicate, getD-replicate, List·getD-eq-default}
+use native.Mathlib.Omega.{arith}
+use borrow.Author.Tests.{ltb-true, ltb-false}
+use Rattle.kit.specs.Ladder.{ladder}
+use Rattle.kit.proofs.Cases.{on}
+use Rattle.telegram.specs.Tables.{slots}
+use Rattle.condition.specs.declared.verdicts.Verdict.the-variants.{Accepted, Refused}
+use Rattle.telegram.specs.declared.Reading.{Reading}
+use Rattle.telegram.specs.declared.Telegram.{Telegram}
+use Rattle.picture.specs.Pictures.{clashes}
+use Rattle.listener.specs.Sets.{begun, setFor, isHeld, joined, isWhole}
+use Rattle.listener.specs.Listeners.{freshListener, markAt, isLast, holding, takenBy, takenAnswer, heardOf, afterReading, hearOf}
+use Rattle.listener.specs.declared.Answer.the-variants.{Refused as refused, Repeat, Held}
+use Rattle.listener.specs.declared.Listener.{Listener}
+use Rattle.listener.specs.declared.sets.Hand.{Hand}
+
+module _ (limit : ℕ) (listener : Listener) where
+  -- R-20, L-11: what the reader refuses is refused under its number and changes nothing
+  pub hear-refused : (reading : Reading) (number : ℕ) → reading .verdict ≡ Refused number → hearOf limit listener reading ≡ record { answer = refused number; listener = listener }
+  unfolding hearOf
+  hear-refused reading number e = ap (λ v. afterReading v limit listener (reading .telegram)) e
+
+  -- what it accepts is heard
+  pub hear-accepted : (t : Telegram) → hearOf limit listener (record { verdict = Accepted; telegram = t }) ≡ heardOf limit listener t
+  unfolding hearOf
+  hear-accepted t = refl
+
+  module _ (t : Telegram) where
+    abbrev set : Hand
+    set = setFor (listener .hand) (t .step)
+
+    abbrev with-it : Hand
+    with-it = joined set t
+
+    -- L-01
+    pub heard-last : isLast (listener .last) (t .step) ≡ true → heardOf limit listener t ≡ record { answer = Repeat; listener = listener }
+    unfolding heardOf ladder
+    heard-last a = rw a refl
+
+    module _ (a : isLast (listener .last) (t .step) ≡ false) where
+      -- L-02
+      pub heard-copy : isHeld set (t .packet) ≡ true → heardOf limit listener t ≡ record { answer = Repeat; listener = listener }
+      unfolding heardOf ladder
+      heard-copy b = rw (a, b) refl
+
+      module _ (b : isHeld set (t .packet) ≡ false) where
+        -- L-03
+        pub heard-part : isWhole with-it ≡ false → heardOf limit listener t ≡ record { answer = Held; listener = holding listener with-it }
+        unfolding heardOf ladder
+        heard-part c = rw (a, b, c) refl
+
+        -- L-09, L-10
+        pub heard-clash : isWhole with-it ≡ true → clashes (with-it .slots) ≡ true
+            → heardOf limit listener t ≡ record { answer = refused 15; listener = holding listener (begun 0) }
+        unfolding heardOf ladder
+        heard-clash c d = rw (a, b, c, d) refl
+
+        -- L-04
+        pub heard-taken : isWhole with-it ≡ true → clashes (with-it .slots) ≡ false
+            → heardOf limit listener t ≡ record { answer = takenAnswer listener with-it; listener = takenBy limit listener with-it }
+        unfolding heardOf ladder
+        heard-taken c d = rw (a, b, c, d) refl
+
+-- A-20: a fresh listener has no mark
+pub fresh-unmarked : (i : ℕ) → markAt (freshListener .marks) i ≡ false
+unfolding freshListener
+fresh-unmarked i =
+    on (ltb i slots)
+    (λ e. getD-replicate slots i false false (ltb-true i slots e))
+    (λ e. List·getD-eq-default (replicate slots false) false {n = i} (omega (arith, ltb-false i slots e)))
