@@ -1,26 +1,30 @@
 -- Demand 3 is proved: of every sequence of calls to a fresh desk and of every heard sequence that meets the premises, what the page
 -- specs/Demand3.antt claims is so.
 use Prim.Native.Nat.{ℕ, _-_, _≤_}
-use mathlib.Core.Path.{_≡_, sym, _∙_}
+use mathlib.Core.Path.{_≡_, sym, ap, _∙_}
 use mathlib.Core.Logic.{_↔_}
 use mathlib.Core.Bool.{true}
 use mathlib.Core.List.{List, [], _∷_}
 use native.Mathlib.Omega.{arith}
 use Rattle.kit.proofs.Cases.{clash, given}
 use Rattle.condition.specs.declared.verdicts.Verdict.the-variants.{Accepted}
+use lib.ListN.{length}
 use Rattle.telegram.specs.Tables.{tableSlot, fourOf}
-use Rattle.desk.specs.Desks.{telegramOf}
+use Rattle.telegram.specs.Telegrams.{readOf}
+use Rattle.telegram.proofs.ReadAgain.{read-again}
+use Rattle.telegram.proofs.Refusals.{packet-fills}
+use Rattle.desk.specs.Desks.{rest as eight, telegramOf}
 use Rattle.desk.proofs.Tables.{telegram-is, packet-sendable}
 use Rattle.picture.proofs.Carrying.{mark-at, carried-exactly, none-carried}
-use Rattle.listener.specs.Listeners.{freshListener, markAt}
+use Rattle.listener.specs.Listeners.{carries, freshListener, markAt}
 use Rattle.listener.proofs.Hearing.{fresh-unmarked}
 use Rattle.claims.specs.Calls.{deskOf, tableIn}
 use Rattle.claims.specs.Hearings.{Item, sent, wholes}
-use Rattle.claims.specs.Demand3.{Binding, message, Sent, Premises, pictureOf, Carried, Claim}
-use Rattle.claims.proofs.Following.{packetOf, marksFor, Falling, falling, shown, answered}
+use Rattle.claims.specs.Demand3.{Demand3, Binding, ReadsBack, bytesIn, message, Sent, Premises, pictureOf, Carried, Claim}
+use Rattle.claims.proofs.Following.{packetOf, marksFor, Falling, falling, shown, right, answered}
 use Rattle.claims.proofs.History.{sound, step-is, table-twenty, table-apart, occupied-ordered, again-stood, stood-again}
 
-module _ (rest limit : ℕ) (enough : limit ≤ rest) (few : rest ≤ 11) {Message : Type 0} (binding : Binding Message) (calls : List (List ℕ)) where
+module _ (rest limit : ℕ) (enough : limit ≤ rest) (few : rest ≤ 11) {Message : Type 0} (binding : Binding Message) (back : ReadsBack binding) (calls : List (List ℕ)) where
   -- a telegram that was sent is read as it was sent
   read-back : (n p : ℕ) → Sent rest limit binding calls n p
       → binding .read (message rest limit binding calls (sent n p)) ≡ record { verdict = Accepted; telegram = packetOf rest limit binding calls n p }
@@ -28,18 +32,18 @@ module _ (rest limit : ℕ) (enough : limit ≤ rest) (few : rest ≤ 11) {Messa
       let step = step-is rest few calls n made in
       let telegram : telegramOf (deskOf rest calls n) p ≡ packetOf rest limit binding calls n p =
       telegram-is (deskOf rest calls n) p ∙ (λ i. record { packet = p; step = step i; slots = fourOf (tableIn rest calls n) p }) in
-      binding .back (telegramOf (deskOf rest calls n) p) (packet-sendable (sound rest few calls n) p low high) carries
+      back (telegramOf (deskOf rest calls n) p) (packet-sendable (sound rest few calls n) p low high) carries
       ∙ (λ i. record { verdict = Accepted; telegram = telegram i })
 
   -- a mark is set exactly when the condition is carried
-  marked : (heard whole : List ℕ) → Falling rest limit binding calls whole → (i : ℕ)
+  marked : (whole : List ℕ) → Falling rest limit binding calls whole → (i : ℕ)
       → (markAt (marksFor rest limit binding calls whole (freshListener .marks)) i ≡ true) ↔ Carried rest limit binding calls whole i
-  marked h [] f i = (λ e. clash e (fresh-unmarked i), λ none. absurd none)
-  marked h (n ∷ []) f i = (
+  marked [] f i = (λ e. clash e (fresh-unmarked i), λ none. absurd none)
+  marked (n ∷ []) f i = (
     λ e. clash e (mark-at limit 0 (pictureOf rest limit binding calls []) (tableIn rest calls n) i ∙ none-carried limit (pictureOf rest limit binding calls []) (tableSlot (tableIn rest calls n) i)),
     λ none. absurd none,
   )
-  marked h (n ∷ m ∷ before) (later, made, f) i =
+  marked (n ∷ m ∷ before) (later, made, f) i =
       let is = mark-at limit (n - m) (tableIn rest calls m) (tableIn rest calls n) i in
       let exactly = carried-exactly (tableIn rest calls m) (tableSlot (tableIn rest calls n) i) limit (n - m) in
       let ordered = occupied-ordered rest few calls n i in (
@@ -51,12 +55,22 @@ module _ (rest limit : ℕ) (enough : limit ≤ rest) (few : rest ≤ 11) {Messa
             is ∙ exactly .1 (ordered .1 order, omega arith, omega arith, stood-again rest few calls m n i (omega arith) (omega arith) made order stood),
       )
 
-  pub demand-3 : (heard : List (Item Message)) → Premises rest limit binding calls heard → Claim rest limit binding calls heard
-  demand-3 heard premises =
+  -- over the figures and any binding that reads back
+  pub claimed : (heard : List (Item Message)) → Premises rest limit binding calls heard → Claim rest limit binding calls heard
+  claimed heard premises =
       let s = shown rest limit binding calls (table-twenty rest few calls) (table-apart rest few calls) read-back heard premises in
       record {
         picture = s .picture;
         last = s .last;
-        carried = λ i. rw (s .marks) (marked [] (wholes heard) (falling rest limit binding calls heard premises) i);
+        carried = λ i. rw (s .marks) (marked (wholes heard) (falling rest limit binding calls heard premises) i);
+        right = right rest limit binding calls (table-twenty rest few calls) (table-apart rest few calls) read-back heard premises;
         answered = answered rest limit binding calls (table-twenty rest few calls) (table-apart rest few calls) read-back heard premises;
       }
+
+-- the fleet's bytes are read back, whatever the buffer of 26 bytes held
+pub bytes-back : (buffer : List ℕ) → length buffer ≡ 26 → ReadsBack (bytesIn buffer)
+bytes-back buffer long t sendable u = ap readOf (packet-fills t buffer (sendable .packet-from) (sendable .packet-to) long) ∙ read-again t sendable
+
+-- DEMAND 3
+pub demand-3 : Demand3
+demand-3 calls buffer long = claimed eight carries (omega arith) (omega arith) (bytesIn buffer) (bytes-back buffer long) calls

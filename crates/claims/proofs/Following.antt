@@ -29,7 +29,7 @@ use Rattle.listener.proofs.Gathering.{Gathered, gathered-none, gathered-as, gat
 use Rattle.listener.proofs.Hearing.{hear-refused, hear-accepted, heard-last, heard-copy, heard-part, heard-taken}
 use Rattle.claims.specs.Calls.{stepsMade, tableIn}
 use Rattle.claims.specs.Hearings.{Item, sent, spoilt, wasHeard, isWhole, wholes, firstOr, NoneAfter, newestOr}
-use Rattle.claims.specs.Demand3.{Binding, message, listenerAfter, Sent, Premises, nothing, next, late, damaged, pictureOf, lastOf, distance, expected, Answered}
+use Rattle.claims.specs.Demand3.{Binding, message, listenerAfter, Sent, Premises, nothing, next, late, damaged, pictureOf, lastOf, distance, PutRight, expected, Answered}
 use Rattle.claims.proofs.Sequences.{heard-here, heard-other, heard-above, whole-same, part-before, nothing-whole, heard-spoilt, wholes-spoilt, whole-spoilt, whole-old, whole-other, whole-apart, whole-below, packet-heard, wholes-old, wholes-part, wholes-new, newest-whole, first-below}
 
 -- two steps less than 8,192 apart have different step numbers
@@ -348,3 +348,19 @@ module _ (rest limit : ℕ) {Message : Type 0} (binding : Binding Message) (call
 
     pub answered : (r : List (Item Message)) → Premises rest limit binding calls r → Answered rest limit binding calls r
     answered r h = following r h .1
+
+    -- M-3e: whatever was lost before, a table that has been heard whole is the picture
+    shown-newest : (r : List (Item Message)) → Premises rest limit binding calls r → (n : ℕ) (before : List ℕ) → wholes r ≡ n ∷ before → listenerAfter rest limit binding calls r .picture ≡ T n
+    shown-newest r h n before newest = shown r h .picture ∙ ap (pictureOf rest limit binding calls) newest
+
+    pub right : (r : List (Item Message)) → Premises rest limit binding calls r → PutRight rest limit binding calls r
+    right r nothing = tt
+    right r (next {earlier} n p h s after bound) =
+        λ w.
+        given (newest-is (sent n p ∷ earlier) (next n p h s after bound) n w)
+        (λ (m, before, is, le).
+        let same : m ≡ n = omega (arith, whole-below m n (sent n p ∷ earlier) (omega arith, after) (newest-whole (sent n p ∷ earlier) m before is)) in
+        shown-newest (sent n p ∷ earlier) (next n p h s after bound) n before (is ∙ ap (λ k. k ∷ before) same))
+    right r (late {earlier} n p before h s newest) =
+        λ w. shown-newest (sent n p ∷ earlier) (late n p before h s newest) n before (wholes-old n p earlier (newest-whole earlier n before newest) ∙ newest)
+    right r (damaged {earlier} other number h e) = tt

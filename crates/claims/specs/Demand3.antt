@@ -1,20 +1,20 @@
--- Demand 3.
+-- Demand 3. The user's words:
 --
--- The user's words:
 --   "Start both ends fresh. Let telegrams be lost or repeated, step order kept, each one heard coming at most 8,191 steps after the
 --   last table heard whole (before any, after the first telegram heard). Then each table heard whole becomes the vehicle's picture
 --   exactly, and until then the previous picture stands. A condition is marked as carried on exactly when at most eight steps lie
 --   from the previous whole table to this one and the same order stood in every accepted list from that one to this; a fresh desk's
 --   table counts as an empty list. However long the loss within that bound, the next whole table puts the vehicle right."
 --
--- On this page they are stated once, over the two figures (rest 8, limit 8) and over the binding that carries telegrams as messages;
--- the last lines are the fleet's. What is proved of it stands in proofs/Demand3.antt.
+-- Each stands below over what states it. The desk, its calls and the tables of its steps are in Calls.antt; what was heard, and
+-- which tables were heard whole, in Hearings.antt. All is said over the two figures, which are eight and eight, and over the binding
+-- that carries a telegram; the last definition is the demand itself, with the fleet's figures and bytes. proofs/Demand3.antt proves it.
 use Prim.Native.Nat.{ℕ, _+_, _-_, _%_, _≤_}
 use mathlib.Core.Path.{_≡_}
 use mathlib.Core.Logic.{_↔_}
 use mathlib.Core.Bool.{true, cond}
 use mathlib.Core.List.{List, [], _∷_}
-use lib.ListN.{replicate}
+use lib.ListN.{length, replicate}
 use Rattle.condition.specs.Slots.{emptySlot}
 use Rattle.condition.specs.Steps.{steps}
 use Rattle.condition.specs.Verdicts.{numberOf}
@@ -22,11 +22,12 @@ use Rattle.condition.specs.declared.slots.Slot.{Slot}
 use Rattle.condition.specs.declared.verdicts.Verdict.the-variants.{Accepted, Refused}
 use Rattle.telegram.specs.Sendable.{Sendable}
 use Rattle.telegram.specs.Tables.{slots}
+use Rattle.telegram.specs.Telegrams.{readOf, written}
 use Rattle.telegram.specs.declared.Reading.{Reading}
 use Rattle.telegram.specs.declared.Telegram.{Telegram}
-use Rattle.desk.specs.Desks.{telegramOf}
+use Rattle.desk.specs.Desks.{rest as eight, telegramOf}
 use Rattle.picture.specs.Pictures.{countOf}
-use Rattle.listener.specs.Listeners.{freshListener, hearOf, markAt}
+use Rattle.listener.specs.Listeners.{carries, freshListener, hearOf, markAt}
 use Rattle.listener.specs.declared.Answer.{Answer}
 use Rattle.listener.specs.declared.Answer.the-variants.{Refused as refused, Repeat, Held, Taken}
 use Rattle.listener.specs.declared.Last.{Last}
@@ -35,50 +36,68 @@ use Rattle.listener.specs.declared.Listener.{Listener}
 use Rattle.claims.specs.Calls.{stepsMade, deskOf, tableIn, orderIn, StoodFrom}
 use Rattle.claims.specs.Hearings.{Item, sent, spoilt, wasHeard, isWhole, wholes, firstOr, NoneAfter, newestOr}
 
--- A binding: how a telegram becomes a message and is read from it, which telegrams it carries, and that it reads these back (M-2d).
+-- M-2: a binding: how a telegram is written as a message and read from it, and which telegrams it can carry
 pub record Binding (Message : Type 0) : Type 1 where
   pub write : Telegram → Message
   pub read : Message → Reading
   pub Carries : Telegram → Type 0
-  pub back : (t : Telegram) → Sendable t → Carries t → read (write t) ≡ record { verdict = Accepted; telegram = t }
 
+-- M-2d: reading a written telegram gives that telegram
+abbrev pub ReadsBack : {Message : Type 0} → Binding Message → Type 0
+ReadsBack binding = (t : Telegram) → Sendable t → binding .Carries t → binding .read (binding .write t) ≡ record { verdict = Accepted; telegram = t }
+
+-- the desk's figure and the listener's, the binding, and the calls of the desk, the newest first
 module _ (rest limit : ℕ) {Message : Type 0} (binding : Binding Message) (calls : List (List ℕ)) where
-  -- "Start both ends fresh": the desk and its calls (Calls.antt), and the listener after what was heard, newest first
+  -- ---- "Start both ends fresh."
+
+  -- D-04, W-03: what is heard as packet p of step n is what the desk of that step wrote
   abbrev pub message : Item Message → Message
   message (sent n p) = binding .write (telegramOf (deskOf rest calls n) p)
   message (spoilt other) = other
 
+  -- A-20, M-1b: the listener after what was heard, the newest first
   unfoldable pub listenerAfter : List (Item Message) → Listener
   listenerAfter [] = freshListener
   listenerAfter (item ∷ earlier) = hearOf limit (listenerAfter earlier) (binding .read (message item)) .listener
 
+  -- M-1b: and what it answers to one telegram more
   abbrev pub answerTo : Item Message → List (Item Message) → Answer
   answerTo item earlier = hearOf limit (listenerAfter earlier) (binding .read (message item)) .answer
 
-  -- "Let telegrams be lost or repeated, step order kept, each one heard coming at most 8,191 steps after the last table heard whole
-  -- (before any, after the first telegram heard)". A telegram is one of the five of a step that the desk has made.
+  -- ---- "Let telegrams be lost or repeated, step order kept, each one heard coming at most 8,191 steps after the last table heard
+  -- whole (before any, after the first telegram heard)."
+
+  -- D-02, T-01: what can be heard: one of the five packets of a step that the desk has made
   abbrev pub Sent : ℕ → ℕ → Type 0
   Sent n p = (n ≤ stepsMade rest calls) × (3 ≤ p) × (p ≤ 7) × binding .Carries (telegramOf (deskOf rest calls n) p)
 
+  -- A-24: that a sequence was heard so. Nothing asks that a telegram be heard at all, and none is forbidden to come again. `late` and
+  -- `damaged` allow more than the user does: repeats of the last whole table at any later time, and anywhere what the reader refuses.
   pub data Premises : List (Item Message) → Type 0 where
     nothing : Premises []
     next : {earlier : List (Item Message)} (n p : ℕ) → Premises earlier → Sent n p → NoneAfter n earlier
         → n ≤ newestOr (firstOr n earlier) (wholes earlier) + 8191 → Premises (sent n p ∷ earlier)
-    -- more than is asked: a repeat of the last whole table may come late, and what the reader refuses may come at any time
-    late : {earlier : List (Item Message)} (n p : ℕ) (before : List ℕ) → Premises earlier → Sent n p → wholes earlier ≡ n ∷ before → Premises (sent n p ∷ earlier)
-    damaged : {earlier : List (Item Message)} (other : Message) (number : ℕ) → Premises earlier → binding .read other .verdict ≡ Refused number → Premises (spoilt other ∷ earlier)
+    late : {earlier : List (Item Message)} (n p : ℕ) (before : List ℕ) → Premises earlier → Sent n p → wholes earlier ≡ n ∷ before
+        → Premises (sent n p ∷ earlier)
+    damaged : {earlier : List (Item Message)} (other : Message) (number : ℕ) → Premises earlier → binding .read other .verdict ≡ Refused number
+        → Premises (spoilt other ∷ earlier)
 
-  -- "each table heard whole becomes the vehicle's picture exactly, and until then the previous picture stands"
+  -- ---- "Then each table heard whole becomes the vehicle's picture exactly, and until then the previous picture stands."
+
+  -- M-3a, M-3b: the picture when these steps were heard whole, the newest first; A-20: before any, the fresh one
   abbrev pub pictureOf : List ℕ → List Slot
   pictureOf [] = replicate slots emptySlot
   pictureOf (n ∷ before) = tableIn rest calls n
 
+  -- L-04: and the step last taken
   abbrev pub lastOf : List ℕ → Last
   lastOf [] = Never
   lastOf (n ∷ before) = Step (n % steps)
 
-  -- "A condition is marked as carried on exactly when at most eight steps lie from the previous whole table to this one and the same
-  -- order stood in every accepted list from that one to this". Before the first table there is no previous one.
+  -- ---- "A condition is marked as carried on exactly when at most eight steps lie from the previous whole table to this one and the
+  -- same order stood in every accepted list from that one to this; a fresh desk's table counts as an empty list."
+
+  -- M-3c, A-23: slot i has a condition, and it is so of that condition's order. With the first table there is no previous one.
   abbrev pub Carried : List ℕ → ℕ → Type 0
   Carried [] i = ⊥
   Carried (n ∷ []) i = ⊥
@@ -86,13 +105,23 @@ module _ (rest limit : ℕ) {Message : Type 0} (binding : Binding Message) (call
       let order = orderIn rest calls n i in
       (1 ≤ order) × (n ≤ m + limit) × StoodFrom rest calls order m n
 
-  -- the true distance from the previous whole table, 0 for the first
+  -- ---- "However long the loss within that bound, the next whole table puts the vehicle right."
+
+  -- M-3e: whatever was lost before, a telegram after which its table has been heard whole leaves that table as the picture
+  abbrev pub PutRight : List (Item Message) → Type 0
+  PutRight [] = Unit
+  PutRight (sent n p ∷ earlier) = isWhole (sent n p ∷ earlier) n ≡ true → listenerAfter (sent n p ∷ earlier) .picture ≡ tableIn rest calls n
+  PutRight (spoilt other ∷ earlier) = Unit
+
+  -- ---- and the answers, which the user reads in the listing
+
+  -- L-05, L-08, C-09: the true distance from the previous whole table; 0 for the first
   abbrev pub distance : List ℕ → ℕ → ℕ
   distance [] n = 0
   distance (m ∷ before) n = n - m
 
-  -- what is answered: a telegram that was heard before is a repeat; one that completes its table is answered with its step number, its
-  -- conditions and the distance; any other is held. No telegram that the desk sent is refused.
+  -- L-01 to L-04: a telegram that was heard before is a repeat; one that makes its table whole is answered with that table's step
+  -- number, its conditions and the distance; any other is held. None that the desk sent is refused.
   abbrev pub expected : Item Message → List (Item Message) → Answer
   expected (sent n p) earlier =
       cond (wasHeard earlier n p) Repeat
@@ -104,9 +133,22 @@ module _ (rest limit : ℕ) {Message : Type 0} (binding : Binding Message) (call
   Answered [] = Unit
   Answered (item ∷ earlier) = answerTo item earlier ≡ expected item earlier
 
-  -- what is claimed of every heard sequence
+  -- M-3: all that is claimed after a heard sequence, and so after each beginning of it
   pub record Claim (heard : List (Item Message)) : Type 0 where
     pub picture : listenerAfter heard .picture ≡ pictureOf (wholes heard)
     pub last : listenerAfter heard .last ≡ lastOf (wholes heard)
     pub carried : (i : ℕ) → (markAt (listenerAfter heard .marks) i ≡ true) ↔ Carried (wholes heard) i
+    pub right : PutRight heard
     pub answered : Answered heard
+
+-- ---- the demand
+
+-- M-2a, M-2b: the fleet's binding: the bytes that `write` leaves in this buffer, and what `hear` reads; it carries every telegram
+abbrev pub bytesIn : List ℕ → Binding (List ℕ)
+bytesIn buffer = record { write = λ t. written t buffer; read = readOf; Carries = λ t. Unit }
+
+-- M-3: of every sequence of lists handed to a fresh desk, whatever the buffer of 26 bytes held, and of everything heard so
+abbrev pub Demand3 : Type 0
+Demand3 =
+    (calls : List (List ℕ)) (buffer : List ℕ) → length buffer ≡ 26 → (heard : List (Item (List ℕ)))
+    → Premises eight carries (bytesIn buffer) calls heard → Claim eight carries (bytesIn buffer) calls heard

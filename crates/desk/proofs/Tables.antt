@@ -4,15 +4,13 @@ use mathlib.Core.Path.{_≡_, refl, sym, ap, _∙_, subst}
 use mathlib.Core.List.{List}
 use lib.ListN.{length, getD, length-map, List·getD-map}
 use native.Mathlib.Omega.{arith}
-use borrow.Author.Tests.{le-leb, eq-eqb}
 use Rattle.condition.specs.Slots.{emptySlot, Held}
 use Rattle.condition.specs.declared.slots.Slot.{Slot}
 use Rattle.condition.specs.declared.verdicts.Verdict.the-variants.{Accepted}
 use Rattle.telegram.specs.Sendable.{Sendable}
 use Rattle.telegram.specs.Tables.{fourOf}
 use Rattle.telegram.specs.Telegrams.{readOf, bytesOf, written}
-use Rattle.telegram.specs.declared.Telegram.{Telegram}
-use Rattle.telegram.proofs.Refusals.{writing-accepted, accepted-written}
+use Rattle.telegram.proofs.Refusals.{packet-fills}
 use Rattle.telegram.proofs.Carried.{table-sendable, slot-carried}
 use Rattle.telegram.proofs.ReadAgain.{read-again}
 use Rattle.orders.specs.Orders.{freePlace, placeAt, slots}
@@ -66,7 +64,4 @@ module _ {rows : ℕ} {desk : Desk} (sound : Sound rows desk) where
 pub packet-written : (desk : Desk) (packet : ℕ) (buffer : List ℕ) → 3 ≤ packet → packet ≤ 7 → length buffer ≡ 26
     → written (telegramOf desk packet) buffer ≡ bytesOf (telegramOf desk packet)
 unfolding telegramOf
-packet-written desk packet buffer low high long =
-    let t : Telegram = telegramOf desk packet in
-    accepted-written t buffer
-    (writing-accepted t buffer .1 (rw (le-leb 3 packet low, le-leb packet 7 high) refl, (rw (eq-eqb (length buffer) 26 long) refl, tt)))
+packet-written desk packet buffer = packet-fills (telegramOf desk packet) buffer

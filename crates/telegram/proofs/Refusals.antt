@@ -1,12 +1,12 @@
 -- Demand 1 of telegrams (R-19, R-20, R-23, R-25): each refusal is given exactly when its row holds and no earlier one does, and a
 -- refused write changes no byte.
-use Prim.Native.Nat.{ℕ}
+use Prim.Native.Nat.{ℕ, _≤_}
 use mathlib.Core.Path.{_≡_, refl, sym, _∙_}
 use mathlib.Core.Logic.{_↔_}
 use mathlib.Core.List.{List}
 use lib.Dec.{eqb}
 use lib.ListN.{length}
-use borrow.Author.Tests.{eqb-true, eqb-false}
+use borrow.Author.Tests.{eqb-true, eqb-false, eq-eqb, le-leb}
 use Rattle.kit.specs.Ladder.{Decides, Silent}
 use Rattle.kit.proofs.Cases.{on}
 use Rattle.condition.proofs.Answers.{accepted-or-refused, refused-when, accepted-when}
@@ -48,3 +48,9 @@ module _ (t : Telegram) (buffer : List ℕ) where
       on (eqb refusal 0)
       (λ z. write-accepted t buffer refusal refl (eqb-true refusal 0 z) .1)
       (λ z. absurd (accepted-or-refused refusal (sym e ∙ write-refused t buffer refusal refl (eqb-false refusal 0 z) .0)))
+
+  -- M-2a: whatever a buffer of 26 bytes held, a packet from 3 to 7 fills it
+  pub packet-fills : 3 ≤ t .packet → t .packet ≤ 7 → length buffer ≡ 26 → written t buffer ≡ bytesOf t
+  packet-fills low high long =
+      accepted-written
+      (writing-accepted .1 (rw (le-leb 3 (t .packet) low, le-leb (t .packet) 7 high) refl, (rw (eq-eqb (length buffer) 26 long) refl, tt)))
