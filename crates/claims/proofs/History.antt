@@ -14,9 +14,11 @@ use Rattle.kit.proofs.Cases.{on, given}
 use Rattle.condition.specs.Slots.{isOccupied, kindOf}
 use Rattle.condition.specs.Steps.{steps}
 use Rattle.condition.specs.Verdicts.{numberOf}
+use Rattle.condition.specs.declared.verdicts.Verdict.the-variants.{Accepted as Passed}
 use Rattle.condition.proofs.Coding.{held-occupied}
 use Rattle.telegram.specs.Tables.{slots, tableSlot}
 use Rattle.orders.specs.Orders.{listRefusal, placeAt}
+use Rattle.desk.specs.Desks.{acceptOf}
 use Rattle.desk.specs.Runs.{run, Accepted, Stood, InNewest}
 use Rattle.desk.specs.Steps.{stepOf}
 use Rattle.desk.specs.declared.Desk.{Desk}
@@ -32,19 +34,23 @@ use Rattle.claims.specs.Calls.{deskAfter, accepted, stepsMade, upTo, des
 module _ (rest : ℕ) where
   -- ---- one call more
 
-  abbrev refusal : List (List ℕ) → List ℕ → ℕ
-  refusal calls list = listRefusal (deskAfter rest calls .places) list
-
   abbrev listed : Bool → List (List ℕ) → List ℕ → List (List ℕ)
   listed test calls list = cond test (list ∷ accepted rest calls) (accepted rest calls)
 
+  -- an accepted call makes a step
+  pub accepted-more : (calls : List (List ℕ)) (list : List ℕ) (desk : Desk) → acceptOf rest (deskAfter rest calls) list ≡ record { verdict = Passed; desk = desk }
+      → (deskAfter rest (list ∷ calls) ≡ desk) × (accepted rest (list ∷ calls) ≡ list ∷ accepted rest calls)
+  unfolding deskAfter accepted
+  accepted-more calls list desk call = (ap (λ a. a .desk) call, ap (λ a. listed (eqb (numberOf (a .verdict)) 0) calls list) call)
+
+  abbrev refusal : List (List ℕ) → List ℕ → ℕ
+  refusal calls list = listRefusal (deskAfter rest calls .places) list
+
   accepts-one : (calls : List (List ℕ)) (list : List ℕ) → refusal calls list ≡ 0
       → (deskAfter rest (list ∷ calls) ≡ stepOf rest (deskAfter rest calls) list) × (accepted rest (list ∷ calls) ≡ list ∷ accepted rest calls)
-  unfolding deskAfter accepted
-  accepts-one calls list e =
-      let call = accepts rest (deskAfter rest calls) list e in
-      (ap (λ a. a .desk) call, ap (λ a. listed (eqb (numberOf (a .verdict)) 0) calls list) call)
+  accepts-one calls list e = accepted-more calls list (stepOf rest (deskAfter rest calls) list) (accepts rest (deskAfter rest calls) list e)
 
+  -- a refused one makes none
   refuses-one : (calls : List (List ℕ)) (list : List ℕ) → (refusal calls list ≡ 0 → ⊥)
       → (deskAfter rest (list ∷ calls) ≡ deskAfter rest calls) × (accepted rest (list ∷ calls) ≡ accepted rest calls)
   unfolding deskAfter accepted
@@ -84,11 +90,11 @@ module _ (rest : ℕ) where
   abbrev history : List (List ℕ) → ℕ → List (List ℕ)
   history calls n = accepted rest (upTo rest calls n)
 
-  up-to-before : (calls : List (List ℕ)) (list : List ℕ) (n : ℕ) → n < stepsMade rest (list ∷ calls) → upTo rest (list ∷ calls) n ≡ upTo rest calls n
+  pub up-to-before : (calls : List (List ℕ)) (list : List ℕ) (n : ℕ) → n < stepsMade rest (list ∷ calls) → upTo rest (list ∷ calls) n ≡ upTo rest calls n
   unfolding upTo
   up-to-before calls list n h = rw (lt-ltb n (stepsMade rest (list ∷ calls)) h) refl
 
-  up-to-all : (calls : List (List ℕ)) (n : ℕ) → stepsMade rest calls ≤ n → upTo rest calls n ≡ calls
+  pub up-to-all : (calls : List (List ℕ)) (n : ℕ) → stepsMade rest calls ≤ n → upTo rest calls n ≡ calls
   unfolding upTo
   up-to-all [] n h = refl
   up-to-all (list ∷ calls) n h = rw (le-ltb n (stepsMade rest (list ∷ calls)) h) refl
@@ -97,7 +103,7 @@ module _ (rest : ℕ) where
   unfolding accepted
   none-made = refl
 
-  -- when n steps had been made, n steps had been made
+  -- the calls up to step n made n steps
   pub made-up-to : (calls : List (List ℕ)) (n : ℕ) → n ≤ stepsMade rest calls → stepsMade rest (upTo rest calls n) ≡ n
   made-up-to [] n h = ap (λ c. stepsMade rest c) (up-to-all [] n (omega (arith, none-made))) ∙ omega (arith, none-made)
   made-up-to (list ∷ calls) n h =

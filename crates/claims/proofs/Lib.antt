@@ -1,4 +1,5 @@
 pub mod Demand3
 pub mod Following
 pub mod History
+pub mod Regular
 pub mod Sequences

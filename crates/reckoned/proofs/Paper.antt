@@ -17,7 +17,7 @@ use Rattle.numbers.specs.Numbers.{restsBy, isResting, hasNumber, nextNumber}
 use Rattle.desk.specs.Desks.{freshWith}
 use Rattle.desk.specs.Runs.{run}
 use Rattle.desk.specs.Steps.{keptPlace, endedEntry, endedNumbers, seated, seatedAll, stepOf}
-use Rattle.reckoned.specs.Reckoned.{Row, paper, desk-rows, p5-wrap, order, orders, wholly-new, one-stays, empty, numbers, from, alone, refusal, to-255, before-the-wrap}
+use Rattle.reckoned.specs.Reckoned.{Row, paper, short-rows, p5-wrap, order, orders, wholly-new, one-stays, empty, numbers, from, alone, refusal, to-255, before-the-wrap}
 
 -- whether two lists of numbers are the same, as a test that computes; and what the test says
 same : List ℕ → List ℕ → Bool
@@ -41,9 +41,9 @@ AllTested [] = Unit
 AllTested (row ∷ rows) = Tested row × AllTested rows
 
 -- the checker computes the rows, the run of 8,197 steps by itself since one declaration may take so many steps and no more
-desk-tested : AllTested desk-rows
+short-tested : AllTested short-rows
 unfolding same order orders wholly-new one-stays empty numbers from alone to-255 before-the-wrap refusal each ladder scan fold bodyOf secondHeld isConsidered gapOf orderAt listedAt placeOf listRows restsBy isResting hasNumber nextNumber freshWith run keptPlace endedEntry endedNumbers seated seatedAll stepOf
-desk-tested = (refl, (refl, (refl, (refl, (refl, (refl, (refl, tt)))))))
+short-tested = (refl, (refl, (refl, (refl, (refl, (refl, (refl, (refl, (refl, tt)))))))))
 
 wrap-tested : Tested p5-wrap
 unfolding same order orders wholly-new one-stays empty numbers from alone to-255 before-the-wrap refusal each ladder scan fold bodyOf secondHeld isConsidered gapOf orderAt listedAt placeOf listRows restsBy isResting hasNumber nextNumber freshWith run keptPlace endedEntry endedNumbers seated seatedAll stepOf
@@ -62,4 +62,4 @@ all-hold ((defined, written) ∷ rows) (t, ts) = (same-equal defined written t, 
 
 -- C-10: one theorem for the table
 pub paper-holds : AllHold paper
-paper-holds = all-hold paper (wrap-tested, desk-tested)
+paper-holds = all-hold paper (wrap-tested, short-tested)

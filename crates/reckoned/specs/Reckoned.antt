@@ -3,6 +3,7 @@ use Prim.Native.Nat.{ℕ, zero, suc, _+_, _*_, _/_, _%_}
 use mathlib.Core.List.{List, [], _∷_, _++_, map}
 use lib.ListN.{replicate}
 use Rattle.kit.specs.Each.{each}
+use Rattle.condition.specs.Steps.{gapOf}
 use Rattle.orders.specs.Orders.{listRefusal}
 use Rattle.orders.specs.declared.Place.{Place}
 use Rattle.desk.specs.Desks.{rest, freshDesk}
@@ -69,10 +70,13 @@ Row = List ℕ × List ℕ
 abbrev pub p5-wrap : Row
 p5-wrap = (numbers (orders 1 1000 ∷ (empty 8183 ++ before-the-wrap)), alone 1)
 
-abbrev pub desk-rows : List Row
-desk-rows =
+abbrev pub short-rows : List Row
+short-rows =
+    -- P3: the gap from 8,190 to 3 is 5; from 0 to 8,191 it is 8,191
+    (gapOf 3 8190 ∷ [], 5 ∷ [])
+    ∷ (gapOf 8191 0 ∷ [], 8191 ∷ [])
     -- P4: twenty wholly new orders every step: step 12 gives 221 to 240, step 13 gives 241 to 255 and then 1 to 5
-    (numbers (wholly-new 12), from 20 221)
+    ∷ (numbers (wholly-new 12), from 20 221)
     ∷ (numbers (wholly-new 13), from 15 241 ++ from 5 1)
     -- P5: in step f + 7 number 1 is passed over; if the order comes in step f + 8 instead, it gets 1
     ∷ (numbers (orders 1 1000 ∷ (empty 6 ++ to-255)), alone 2)
@@ -85,4 +89,4 @@ desk-rows =
 
 -- C-10: all of them
 abbrev pub paper : List Row
-paper = p5-wrap ∷ desk-rows
+paper = p5-wrap ∷ short-rows

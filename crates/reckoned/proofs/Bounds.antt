@@ -1,0 +1,120 @@
+-- Demand 3 at its edges, computed from the definitions on bytes, from a fresh desk and a fresh listener on.
+--
+-- Within the bound: one order stands, and whole tables are heard at the steps 1, 9, 18 and 8,209. The gaps are 8, 9 and 8,191; the
+-- condition is carried over 8, and new over 9 (H-9) and over 8,191. The premises of demand 3 hold of it all (`within`).
+--
+-- Beyond the bound, by one step and by two: a table is not taken, a condition is called carried over 8,193 steps, and a picture is
+-- shown that never was. This is what the bound is for.
+use Prim.Native.Nat.{ℕ}
+use mathlib.Core.Path.{_≡_, refl, ap, ap₂, _∙_}
+use mathlib.Core.Bool.{Bool, true, false}
+use mathlib.Core.List.{List, [], _∷_, map}
+use lib.ListN.{replicate}
+use native.Mathlib.Omega.{arith}
+use Rattle.kit.specs.Each.{each}
+use Rattle.kit.specs.Ladder.{ladder}
+use Rattle.kit.specs.Loops.{scan, fold, count}
+use Rattle.condition.specs.Slots.{bodyOf, codedOf, slotRows, sixOf}
+use Rattle.condition.specs.Steps.{gapOf}
+use Rattle.condition.specs.Verdicts.{verdictOf}
+use Rattle.condition.specs.Words.{isConsidered, secondAllowed, secondHeld}
+use Rattle.telegram.specs.Tables.{fourOf}
+use Rattle.telegram.specs.Telegrams.{readOf, readRows, codedAt, takenBefore, telegramOf, bytesOf, written}
+use Rattle.desk.specs.Desks.{rest, tableOf, telegramOf as deskTelegram}
+use Rattle.picture.specs.Pictures.{countOf, hasNumber, isTwice, clashes, isSame, isKnown, isCarried, marksOf}
+use Rattle.listener.specs.Listeners.{carries, freshListener, takenBy, heardOf, hearOf}
+use Rattle.listener.specs.Sets.{begun, setFor, isHeld, joined, isWhole}
+use Rattle.listener.specs.declared.Answer.{Answer}
+use Rattle.listener.specs.declared.Answer.the-variants.{Repeat, Held, Taken}
+use Rattle.claims.specs.Calls.{tableIn}
+use Rattle.claims.specs.Demand3.{bytesIn, Premises}
+use Rattle.claims.specs.Hearings.{Item, sent, wholes}
+use Rattle.claims.specs.Regular.{fiveOf, wholly}
+use Rattle.claims.proofs.Regular.{regular}
+use Rattle.reckoned.specs.Standing.{standing, then-five, blank, listener, answers}
+use Rattle.reckoned.proofs.Standing.{Within, said, stood, fived, wire, hearing, answering, wires, fiveWires, same-listener, same-answers, said-wires, standing-made, desk-five, desk-before-five}
+
+-- a table taken with its fifth packet, after others
+abbrev taken : ℕ → ℕ → ℕ → List Answer → List Answer
+taken step conditions gap earlier = Taken step conditions gap ∷ Held ∷ Held ∷ Held ∷ Held ∷ earlier
+
+abbrev heard : List ℕ → List (Item (List ℕ))
+heard steps = wholly (List ℕ) steps
+
+-- a run of a standing list, by its bytes
+module _ (k : ℕ) (at : List ℕ) (inside : Within k at) where
+  answers-at : answers (standing k) (heard at) ≡ answering (wires at)
+  answers-at = same-answers (standing k) (heard at) ∙ ap answering (said-wires k at inside)
+
+  marks-at : listener (standing k) (heard at) .marks ≡ hearing (wires at) .marks
+  marks-at = ap (λ l. l .marks) (same-listener (standing k) (heard at) ∙ ap hearing (said-wires k at inside))
+
+-- ---- what the checker computes, of the bytes
+
+abbrev pub one-marked : List Bool
+one-marked = true ∷ replicate 19 false
+
+abbrev pub none-marked : List Bool
+none-marked = replicate 20 false
+
+computed : (answering (wires (8209 ∷ 18 ∷ 9 ∷ 1 ∷ [])) ≡ taken 17 1 8191 (taken 18 1 9 (taken 9 1 8 (taken 1 1 0 []))))
+    × (hearing (wires (9 ∷ 1 ∷ [])) .marks ≡ one-marked)
+    × (hearing (wires (18 ∷ 9 ∷ 1 ∷ [])) .marks ≡ none-marked)
+    × (hearing (wires (8209 ∷ 18 ∷ 9 ∷ 1 ∷ [])) .marks ≡ none-marked)
+    × (answering (wires (8194 ∷ 1 ∷ [])) ≡ taken 2 1 1 (taken 1 1 0 []))
+    × (hearing (wires (8194 ∷ 1 ∷ [])) .marks ≡ one-marked)
+    × (answering (fiveWires (fived 1) (wires (1 ∷ []))) ≡ Repeat ∷ Repeat ∷ Repeat ∷ Repeat ∷ Repeat ∷ taken 1 1 0 [])
+    × (answering (fiveWires (fived 1) (wire (stood 1) 3 ∷ [])) ≡ Taken 1 2 0 ∷ Held ∷ Held ∷ Held ∷ Repeat ∷ Held ∷ [])
+unfolding answering hearing wires hearOf heardOf ladder setFor begun isHeld joined isWhole count fold takenBy marksOf isCarried isKnown isSame scan clashes isTwice hasNumber countOf freshListener readOf verdictOf readRows each codedAt takenBefore slotRows secondAllowed secondHeld isConsidered telegramOf bodyOf bytesOf written sixOf codedOf fourOf tableOf deskTelegram gapOf
+computed = (refl, refl, refl, refl, refl, refl, refl, refl)
+
+-- ---- within the bound
+
+pub within : Premises rest carries (bytesIn blank) (standing 8209) (heard (8209 ∷ 18 ∷ 9 ∷ 1 ∷ [])) × (wholes (heard (8209 ∷ 18 ∷ 9 ∷ 1 ∷ [])) ≡ 8209 ∷ 18 ∷ 9 ∷ 1 ∷ [])
+within =
+    regular rest carries (bytesIn blank) (standing 8209) (λ t. tt) 8209 (18 ∷ 9 ∷ 1 ∷ [])
+    (rw (standing-made 8209) (omega arith, omega arith, omega arith, (omega arith, omega arith, omega arith, (omega arith, omega arith, omega arith, omega arith))))
+
+-- the answers: the gaps are the true distances, 0 for the first; step 8,209 has step number 17
+pub gaps : answers (standing 8209) (heard (8209 ∷ 18 ∷ 9 ∷ 1 ∷ [])) ≡ taken 17 1 8191 (taken 18 1 9 (taken 9 1 8 (taken 1 1 0 [])))
+gaps = answers-at 8209 (8209 ∷ 18 ∷ 9 ∷ 1 ∷ []) (omega arith) ∙ computed .0
+
+-- the marks, slot 0 being the condition's: carried over 8, new over 9 and over 8,191
+pub carried-over-8 : listener (standing 8209) (heard (9 ∷ 1 ∷ [])) .marks ≡ one-marked
+carried-over-8 = marks-at 8209 (9 ∷ 1 ∷ []) (omega arith) ∙ computed .1
+
+pub new-over-9 : listener (standing 8209) (heard (18 ∷ 9 ∷ 1 ∷ [])) .marks ≡ none-marked
+new-over-9 = marks-at 8209 (18 ∷ 9 ∷ 1 ∷ []) (omega arith) ∙ computed .2
+
+pub new-over-8191 : listener (standing 8209) (heard (8209 ∷ 18 ∷ 9 ∷ 1 ∷ [])) .marks ≡ none-marked
+new-over-8191 = marks-at 8209 (8209 ∷ 18 ∷ 9 ∷ 1 ∷ []) (omega arith) ∙ computed .3
+
+-- ---- beyond the bound
+
+-- 8,193 steps from one whole table to the next: the gap shows 1, and the condition is called carried
+pub gap-not-true : (answers (standing 8194) (heard (8194 ∷ 1 ∷ [])) ≡ taken 2 1 1 (taken 1 1 0 [])) × (listener (standing 8194) (heard (8194 ∷ 1 ∷ [])) .marks ≡ one-marked)
+gap-not-true = (
+  answers-at 8194 (8194 ∷ 1 ∷ []) (omega arith) ∙ computed .4,
+  marks-at 8194 (8194 ∷ 1 ∷ []) (omega arith) ∙ computed .5,
+)
+
+-- the bytes of two runs in which a list of five comes in step 8,193
+said-missed : map (said (then-five 8192)) (heard (8193 ∷ 1 ∷ [])) ≡ fiveWires (fived 1) (wires (1 ∷ []))
+unfolding wholly wires
+said-missed = ap₂ (λ new old. fiveWires new (fiveWires old [])) (desk-five 8191) (desk-before-five 8191 1 (omega arith) (omega arith))
+
+said-stale : map (said (then-five 8192)) (fiveOf 8193 (sent 1 3 ∷ [])) ≡ fiveWires (fived 1) (wire (stood 1) 3 ∷ [])
+said-stale = ap₂ (λ new old. fiveWires new (wire old 3 ∷ [])) (desk-five 8191) (desk-before-five 8191 1 (omega arith) (omega arith))
+
+-- 8,192 steps from the last whole table: the five telegrams of step 8,193 are taken for repeats of step 1, and its table is not taken
+pub table-missed : answers (then-five 8192) (heard (8193 ∷ 1 ∷ [])) ≡ Repeat ∷ Repeat ∷ Repeat ∷ Repeat ∷ Repeat ∷ taken 1 1 0 []
+table-missed = same-answers (then-five 8192) (heard (8193 ∷ 1 ∷ [])) ∙ (ap answering said-missed ∙ computed .6)
+
+-- 8,192 steps from the first telegram, packet 3 of step 1: that packet is kept as one of step 8,193, whose own packet 3 is called a
+-- repeat. The table taken has two conditions, and that of step 8,193 has five: a picture that never was
+pub table-mixed : (answers (then-five 8192) (fiveOf 8193 (sent 1 3 ∷ [])) ≡ Taken 1 2 0 ∷ Held ∷ Held ∷ Held ∷ Repeat ∷ Held ∷ []) × (countOf (tableIn rest (then-five 8192) 8193) ≡ 5)
+unfolding countOf count fold tableOf
+table-mixed = (
+  same-answers (then-five 8192) (fiveOf 8193 (sent 1 3 ∷ [])) ∙ (ap answering said-stale ∙ computed .7),
+  ap (λ desk. countOf (tableOf desk)) (desk-five 8191),
+)

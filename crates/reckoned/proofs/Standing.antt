@@ -1,0 +1,174 @@
+-- Runs of both ends, computed.
+use Prim.Native.Nat.{ℕ, zero, suc, _+_, _%_, _<_, _≤_}
+use mathlib.Core.Path.{_≡_, refl, sym, ap, ap₂, _∙_}
+use mathlib.Core.List.{List, [], _∷_, map}
+use lib.Dec.{ltb}
+use lib.ListN.{length, replicate, length-replicate}
+use native.Mathlib.Omega.{arith}
+use borrow.Author.Tests.{ltb-true, ltb-false}
+use Rattle.kit.specs.Each.{each}
+use Rattle.kit.specs.Ladder.{ladder}
+use Rattle.kit.specs.Loops.{scan, fold}
+use Rattle.kit.proofs.Cases.{on}
+use Rattle.condition.specs.Slots.{bodyOf, codedOf}
+use Rattle.condition.specs.Steps.{steps, gapOf}
+use Rattle.condition.specs.Verdicts.{verdictOf}
+use Rattle.condition.specs.Words.{isConsidered, secondAllowed, secondHeld}
+use Rattle.condition.specs.declared.slots.Body.the-variants.{Area}
+use Rattle.condition.specs.declared.verdicts.Verdict.the-variants.{Accepted}
+use Rattle.orders.specs.Orders.{freePlace, orderAt, listedAt, placeOf, orderRows, isRetyped, listRows}
+use Rattle.orders.specs.declared.Place.{Place}
+use Rattle.numbers.specs.Numbers.{noneEnded, restsBy, isResting, hasNumber, nextNumber}
+use Rattle.desk.specs.Desks.{rest, freshWith, acceptOf, telegramOf as deskTelegram}
+use Rattle.desk.specs.Steps.{keptPlace, endedEntry, endedNumbers, seated, seatedAll, stepOf}
+use Rattle.desk.specs.declared.Desk.{Desk}
+use Rattle.claims.specs.Calls.{deskAfter, accepted, stepsMade, upTo, deskOf}
+use Rattle.claims.specs.Demand3.{bytesIn, message, listenerAfter}
+use Rattle.claims.specs.Hearings.{Item}
+use Rattle.claims.specs.Regular.{wholly}
+use Rattle.telegram.specs.Telegrams.{readOf, written}
+use Rattle.listener.specs.Listeners.{carries, freshListener, hearOf}
+use Rattle.listener.specs.declared.Answer.{Answer}
+use Rattle.listener.specs.declared.Listener.{Listener}
+use Rattle.claims.proofs.History.{accepted-more, up-to-before, up-to-all}
+use Rattle.reckoned.specs.Reckoned.{order, orders}
+use Rattle.reckoned.specs.Standing.{standing, then-five, blank, listener, answers}
+
+-- order n with number n, type 1
+abbrev pub entry : ℕ → Place
+entry n = record { order = n; slot = record { number = n; body = Area 1 0 0 } }
+
+-- the desk of a standing list: order 1 with number 1 in slot 0, nothing ended
+abbrev pub stood : ℕ → Desk
+stood step =
+    record {
+      places = entry 1 ∷ replicate 19 freePlace;
+      ended = replicate 160 noneEnded;
+      last = 1;
+      step = step;
+    }
+
+-- and after the list of five: order 5 has number 5 in slot 4
+abbrev pub fived : ℕ → Desk
+fived step = record { places = entry 1 ∷ entry 2 ∷ entry 3 ∷ entry 4 ∷ entry 5 ∷ replicate 15 freePlace; ended = replicate 160 noneEnded; last = 5; step = step }
+
+first-call : acceptOf rest (freshWith rest) (order 1) ≡ record { verdict = Accepted; desk = stood 1 }
+unfolding order orders acceptOf verdictOf codedOf freshWith each ladder scan fold bodyOf secondHeld isConsidered secondAllowed orderAt listedAt placeOf orderRows isRetyped listRows restsBy isResting hasNumber nextNumber gapOf keptPlace endedEntry endedNumbers seated seatedAll stepOf
+first-call = refl
+
+next-call : (step : ℕ) → acceptOf rest (stood step) (order 1) ≡ record { verdict = Accepted; desk = stood ((step + 1) % steps) }
+unfolding order orders acceptOf verdictOf codedOf freshWith each ladder scan fold bodyOf secondHeld isConsidered secondAllowed orderAt listedAt placeOf orderRows isRetyped listRows restsBy isResting hasNumber nextNumber gapOf keptPlace endedEntry endedNumbers seated seatedAll stepOf
+next-call step = refl
+
+five-call : (step : ℕ) → acceptOf rest (stood step) (orders 5 1) ≡ record { verdict = Accepted; desk = fived ((step + 1) % steps) }
+unfolding order orders acceptOf verdictOf codedOf freshWith each ladder scan fold bodyOf secondHeld isConsidered secondAllowed orderAt listedAt placeOf orderRows isRetyped listRows restsBy isResting hasNumber nextNumber gapOf keptPlace endedEntry endedNumbers seated seatedAll stepOf
+five-call step = refl
+
+-- ---- the desk of each step
+
+standing-is : (k : ℕ) → (deskAfter rest (standing (suc k)) ≡ stood ((suc k) % steps)) × (accepted rest (standing (suc k)) ≡ standing (suc k))
+unfolding standing deskAfter accepted
+standing-is zero = accepted-more rest [] (order 1) (stood 1) first-call
+standing-is (suc k) = go (standing-is k)
+  where
+    go : (deskAfter rest (standing (suc k)) ≡ stood ((suc k) % steps)) × (accepted rest (standing (suc k)) ≡ standing (suc k))
+        → (deskAfter rest (standing (suc (suc k))) ≡ stood ((suc (suc k)) % steps)) × (accepted rest (standing (suc (suc k))) ≡ standing (suc (suc k)))
+    go (desk, lists) =
+        let call = ap (λ d. acceptOf rest d (order 1)) desk ∙ next-call ((suc k) % steps) in
+        let next : (suc k % steps + 1) % steps ≡ suc (suc k) % steps = omega arith in
+        let step = accepted-more rest (standing (suc k)) (order 1) (stood (((suc k) % steps + 1) % steps)) call in
+        (step .0 ∙ ap stood next, step .1 ∙ ap (λ l. order 1 ∷ l) lists)
+
+pub standing-made : (k : ℕ) → stepsMade rest (standing k) ≡ k
+unfolding standing accepted
+standing-made zero = refl
+standing-made (suc k) = ap length (standing-is k .1) ∙ length-replicate (suc k) (order 1)
+
+up-to-standing : (k n : ℕ) → n ≤ k → upTo rest (standing k) n ≡ standing n
+unfolding standing
+up-to-standing zero n small = let none : n ≡ 0 = omega arith in rw none (up-to-all rest [] 0 (omega (arith, standing-made 0)))
+up-to-standing (suc k) n small =
+    on (ltb n (suc k))
+    (λ e.
+    let less : n < suc k = ltb-true n (suc k) e in
+    up-to-before rest (standing k) (order 1) n (omega (arith, standing-made (suc k))) ∙ up-to-standing k n (omega arith))
+    (λ e.
+    let same : suc k ≡ n = omega (arith, ltb-false n (suc k) e) in
+    up-to-all rest (standing (suc k)) n (omega (arith, standing-made (suc k))) ∙ ap standing same)
+
+module _ (k n : ℕ) (from : 1 ≤ n) (to : n ≤ k) where
+  pub desk-standing : deskOf rest (standing k) n ≡ stood (n % steps)
+  desk-standing = go n from to
+    where
+      go : (n : ℕ) → 1 ≤ n → n ≤ k → deskOf rest (standing k) n ≡ stood (n % steps)
+      go zero p q = absurd (omega arith)
+      go (suc n) p q = ap (deskAfter rest) (up-to-standing k (suc n) q) ∙ standing-is n .0
+
+-- the same where a list of five comes after
+module _ (k : ℕ) where
+  five-is : (deskAfter rest (then-five (suc k)) ≡ fived (suc (suc k) % steps)) × (accepted rest (then-five (suc k)) ≡ then-five (suc k))
+  unfolding then-five
+  five-is =
+      let call = ap (λ d. acceptOf rest d (orders 5 1)) (standing-is k .0) ∙ five-call ((suc k) % steps) in
+      let next : (suc k % steps + 1) % steps ≡ suc (suc k) % steps = omega arith in
+      let step = accepted-more rest (standing (suc k)) (orders 5 1) (fived (((suc k) % steps + 1) % steps)) call in
+      (step .0 ∙ ap fived next, step .1 ∙ ap (λ l. orders 5 1 ∷ l) (standing-is k .1))
+
+  pub five-made : stepsMade rest (then-five (suc k)) ≡ suc (suc k)
+  unfolding then-five
+  five-made = ap length (five-is .1) ∙ ap suc (sym (ap length (standing-is k .1)) ∙ standing-made (suc k))
+
+  pub desk-five : deskOf rest (then-five (suc k)) (suc (suc k)) ≡ fived (suc (suc k) % steps)
+  desk-five = ap (deskAfter rest) (up-to-all rest (then-five (suc k)) (suc (suc k)) (omega (arith, five-made))) ∙ five-is .0
+
+  pub desk-before-five : (n : ℕ) → 1 ≤ n → n ≤ suc k → deskOf rest (then-five (suc k)) n ≡ stood (n % steps)
+  unfolding then-five
+  desk-before-five n from to =
+      ap (deskAfter rest) (up-to-before rest (standing (suc k)) (orders 5 1) n (omega (arith, five-made))) ∙ desk-standing (suc k) n from to
+
+-- ---- the listener on messages
+
+-- the listener that has heard these bytes, the newest first, and its answers
+unfoldable pub hearing : List (List ℕ) → Listener
+hearing [] = freshListener
+hearing (bytes ∷ earlier) = hearOf carries (hearing earlier) (readOf bytes) .listener
+
+unfoldable pub answering : List (List ℕ) → List Answer
+answering [] = []
+answering (bytes ∷ earlier) = hearOf carries (hearing earlier) (readOf bytes) .answer ∷ answering earlier
+
+-- packet p of a desk's table
+abbrev pub wire : Desk → ℕ → List ℕ
+wire desk p = written (deskTelegram desk p) blank
+
+module _ (calls : List (List ℕ)) where
+  abbrev pub said : Item (List ℕ) → List ℕ
+  said item = message rest carries (bytesIn blank) calls item
+
+  pub same-listener : (heard : List (Item (List ℕ))) → listener calls heard ≡ hearing (map said heard)
+  unfolding listenerAfter hearing
+  same-listener [] = refl
+  same-listener (item ∷ heard) = ap (λ l. hearOf carries l (readOf (said item)) .listener) (same-listener heard)
+
+  pub same-answers : (heard : List (Item (List ℕ))) → answers calls heard ≡ answering (map said heard)
+  unfolding answers answering
+  same-answers [] = refl
+  same-answers (item ∷ heard) = ap₂ (λ l a. hearOf carries l (readOf (said item)) .answer ∷ a) (same-listener heard) (same-answers heard)
+
+-- the five packets of a desk's table
+abbrev pub fiveWires : Desk → List (List ℕ) → List (List ℕ)
+fiveWires desk earlier = wire desk 7 ∷ wire desk 6 ∷ wire desk 5 ∷ wire desk 4 ∷ wire desk 3 ∷ earlier
+
+-- those of a standing list at these steps
+unfoldable pub wires : List ℕ → List (List ℕ)
+wires [] = []
+wires (n ∷ before) = fiveWires (stood (n % steps)) (wires before)
+
+abbrev pub Within : ℕ → List ℕ → Type 0
+Within k [] = Unit
+Within k (n ∷ before) = (1 ≤ n) × (n ≤ k) × Within k before
+
+pub said-wires : (k : ℕ) (at : List ℕ) → Within k at → map (said (standing k)) (wholly (List ℕ) at) ≡ wires at
+unfolding wholly wires
+said-wires k [] w = refl
+said-wires k (n ∷ at) (from, to, w) = ap₂ (λ desk earlier. fiveWires desk earlier) (desk-standing k n from to) (said-wires k at w)

@@ -1,0 +1,32 @@
+-- Runs of both ends: a list that stays in force for as long as one likes, and what a listener answers that hears some of its tables.
+-- Within the bound of demand 3 they show what it promises; beyond it, what the bound is for.
+use Prim.Native.Nat.{ℕ}
+use mathlib.Core.List.{List, [], _∷_}
+use lib.ListN.{replicate}
+use Rattle.desk.specs.Desks.{rest}
+use Rattle.listener.specs.Listeners.{carries}
+use Rattle.listener.specs.declared.Answer.{Answer}
+use Rattle.listener.specs.declared.Listener.{Listener}
+use Rattle.claims.specs.Demand3.{bytesIn, listenerAfter, answerTo}
+use Rattle.claims.specs.Hearings.{Item}
+use Rattle.reckoned.specs.Reckoned.{order, orders}
+
+-- so many lists with the one order 1
+unfoldable pub standing : ℕ → List (List ℕ)
+standing k = replicate k (order 1)
+
+-- and then one with the orders 1 to 5
+unfoldable pub then-five : ℕ → List (List ℕ)
+then-five k = orders 5 1 ∷ standing k
+
+-- the buffer that the desk writes into
+abbrev pub blank : List ℕ
+blank = replicate 26 0
+
+-- the listener that has heard these, the newest first, and its answers, the newest first
+abbrev pub listener : List (List ℕ) → List (Item (List ℕ)) → Listener
+listener calls heard = listenerAfter rest carries (bytesIn blank) calls heard
+
+unfoldable pub answers : List (List ℕ) → List (Item (List ℕ)) → List Answer
+answers calls [] = []
+answers calls (item ∷ earlier) = answerTo rest carries (bytesIn blank) calls item earlier ∷ answers calls earlier
