@@ -28,12 +28,12 @@ use Rattle.listener.specs.declared.sets.Hand.{Hand}
 use Rattle.listener.proofs.Gathering.{Gathered, gathered-none, gathered-as, gathered-held, gathered-more, gathered-whole, gathered-table, set-same, set-other, set-first}
 use Rattle.listener.proofs.Hearing.{hear-refused, hear-accepted, heard-last, heard-copy, heard-part, heard-taken}
 use Rattle.claims.specs.Calls.{stepsMade, tableIn}
-use Rattle.claims.specs.Hearings.{Item, sent, spoilt, wasHeard, isWhole, wholes, firstOr, NoneAfter, newestOr}
+use Rattle.claims.specs.Hearings.{Item, sent, spoilt, wasHeard, isWhole, wholes, firstOr, NoneAfter, newestOr, farthest, Near}
 use Rattle.claims.specs.Demand3.{Binding, message, listenerAfter, Sent, Premises, nothing, next, late, damaged, pictureOf, lastOf, distance, PutRight, expected, Answered}
 use Rattle.claims.proofs.Sequences.{heard-here, heard-other, heard-above, whole-same, part-before, nothing-whole, heard-spoilt, wholes-spoilt, whole-spoilt, whole-old, whole-other, whole-apart, whole-below, packet-heard, wholes-old, wholes-part, wholes-new, newest-whole, first-below}
 
 -- two steps less than 8,192 apart have different step numbers
-steps-apart : (m n : ℕ) → m < n → n ≤ m + 8191 → m % steps ≡ n % steps → ⊥
+steps-apart : (m n : ℕ) → m < n → n ≤ m + farthest → m % steps ≡ n % steps → ⊥
 steps-apart m n p q e = omega arith
 
 -- packet p is number p - 3 of the five
@@ -110,9 +110,9 @@ module _ (rest limit : ℕ) {Message : Type 0} (binding : Binding Message) (call
   -- ---- a telegram of a step that is not yet whole
 
   module _ (n p : ℕ) (r : List (Item Message)) (u : isWhole r n ≡ false) (after : NoneAfter n r)
-      (bound : n ≤ newestOr (firstOr n r) (wholes r) + 8191) (low : 3 ≤ p) (high : p ≤ 7) where
+      (bound : Near n r) (low : 3 ≤ p) (high : p ≤ 7) where
     -- the newest whole table is an earlier one, within the bound
-    newest-near : (m : ℕ) (before : List ℕ) → wholes r ≡ m ∷ before → (m < n) × (n ≤ m + 8191)
+    newest-near : (m : ℕ) (before : List ℕ) → wholes r ≡ m ∷ before → (m < n) × (n ≤ m + farthest)
     newest-near m before e =
         let w : isWhole r m ≡ true = newest-whole r m before e in
         (omega (arith, whole-apart r m n w u, whole-below m n r after w), rw e at bound)
@@ -311,7 +311,7 @@ module _ (rest limit : ℕ) {Message : Type 0} (binding : Binding Message) (call
     follow-late l n p r before s newest = follow-old n p r (newest-whole r n before newest) l before newest (s .1) (s .2)
 
     follow-next : (l : Listener) (n p : ℕ) (r : List (Item Message)) → Premises rest limit binding calls r → Sent rest limit binding calls n p → NoneAfter n r
-        → n ≤ newestOr (firstOr n r) (wholes r) + 8191 → Rel r l → Follows (sent n p) r (heardOf limit l (packetOf n p))
+        → Near n r → Rel r l → Follows (sent n p) r (heardOf limit l (packetOf n p))
     follow-next l n p r h s after bound v =
         on (isWhole r n)
         (λ w.

@@ -12,7 +12,7 @@ use Rattle.telegram.specs.Tables.{packets, firstPacket}
 use Rattle.telegram.specs.declared.Telegram.{Telegram}
 use Rattle.desk.specs.Desks.{telegramOf}
 use Rattle.claims.specs.Calls.{stepsMade, deskOf}
-use Rattle.claims.specs.Hearings.{Item, sent, spoilt, wasHeard, isWhole, wholes, firstOr, NoneAfter, newestOr}
+use Rattle.claims.specs.Hearings.{Item, sent, spoilt, wasHeard, isWhole, wholes, firstOr, NoneAfter, newestOr, farthest}
 use Rattle.claims.specs.Demand3.{Binding, Premises, nothing, next}
 use Rattle.claims.specs.Regular.{fiveOf, wholly, Spaced}
 use Rattle.claims.proofs.Sequences.{heard-here, heard-above, wholes-part, wholes-new}
@@ -41,7 +41,7 @@ module _ (rest limit : ℕ) {Message : Type 0} (binding : Binding Message) (call
     premises : Premises rest limit binding calls r
     after : NoneAfter n r
     same : wholes r ≡ whole
-    bound : n ≤ newestOr (firstOr n r) whole + 8191
+    bound : n ≤ newestOr (firstOr n r) whole + farthest
     known : (q : ℕ) → wasHeard r n q ≡ packet q
 
   module _ {n : ℕ} {whole : List ℕ} {packet : ℕ → Bool} {r : List (Item Message)} (part : Part n whole packet r) (made : n ≤ stepsMade rest calls) (p : ℕ) (low : 3 ≤ p) (high : p ≤ 7) where

@@ -34,7 +34,7 @@ use Rattle.listener.specs.declared.Last.{Last}
 use Rattle.listener.specs.declared.Last.the-variants.{Never, Step}
 use Rattle.listener.specs.declared.Listener.{Listener}
 use Rattle.claims.specs.Calls.{stepsMade, deskOf, tableIn, orderIn, StoodFrom}
-use Rattle.claims.specs.Hearings.{Item, sent, spoilt, wasHeard, isWhole, wholes, firstOr, NoneAfter, newestOr}
+use Rattle.claims.specs.Hearings.{Item, sent, spoilt, wasHeard, isWhole, wholes, NoneAfter, Near}
 
 -- M-2: a binding: how a telegram is written as a message and read from it, and which telegrams it can carry
 pub record Binding (Message : Type 0) : Type 1 where
@@ -75,8 +75,7 @@ module _ (rest limit : ℕ) {Message : Type 0} (binding : Binding Message) (call
   -- `damaged` allow more than the user does: repeats of the last whole table at any later time, and anywhere what the reader refuses.
   pub data Premises : List (Item Message) → Type 0 where
     nothing : Premises []
-    next : {earlier : List (Item Message)} (n p : ℕ) → Premises earlier → Sent n p → NoneAfter n earlier
-        → n ≤ newestOr (firstOr n earlier) (wholes earlier) + 8191 → Premises (sent n p ∷ earlier)
+    next : {earlier : List (Item Message)} (n p : ℕ) → Premises earlier → Sent n p → NoneAfter n earlier → Near n earlier → Premises (sent n p ∷ earlier)
     late : {earlier : List (Item Message)} (n p : ℕ) (before : List ℕ) → Premises earlier → Sent n p → wholes earlier ≡ n ∷ before
         → Premises (sent n p ∷ earlier)
     damaged : {earlier : List (Item Message)} (other : Message) (number : ℕ) → Premises earlier → binding .read other .verdict ≡ Refused number

@@ -11,6 +11,15 @@ pub data Item (Message : Type 0) : Type 0 where
   sent : ℕ → ℕ → Item Message
   spoilt : Message → Item Message
 
+-- the newest of some steps, or another
+abbrev pub newestOr : ℕ → List ℕ → ℕ
+newestOr other [] = other
+newestOr other (n ∷ earlier) = n
+
+-- M-3: how far after that a telegram may come
+abbrev pub farthest : ℕ
+farthest = 8191
+
 module _ {Message : Type 0} where
   -- packet p of step n was heard
   unfoldable pub wasHeard : List (Item Message) → ℕ → ℕ → Bool
@@ -40,7 +49,6 @@ module _ {Message : Type 0} where
   NoneAfter n (sent m q ∷ earlier) = (m ≤ n) × NoneAfter n earlier
   NoneAfter n (spoilt message ∷ earlier) = NoneAfter n earlier
 
--- the newest of some steps, or another
-abbrev pub newestOr : ℕ → List ℕ → ℕ
-newestOr other [] = other
-newestOr other (n ∷ earlier) = n
+  -- M-3, A-24: at most 8,191 steps after the last table heard whole (before any, after the first telegram heard)
+  abbrev pub Near : ℕ → List (Item Message) → Type 0
+  Near n earlier = n ≤ newestOr (firstOr n earlier) (wholes earlier) + farthest

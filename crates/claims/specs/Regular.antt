@@ -2,7 +2,7 @@
 -- premises of demand 3 can be met, whatever the steps, as long as they are at most 8,191 apart.
 use Prim.Native.Nat.{ℕ, _+_, _<_, _≤_}
 use mathlib.Core.List.{List, [], _∷_}
-use Rattle.claims.specs.Hearings.{Item, sent}
+use Rattle.claims.specs.Hearings.{Item, sent, farthest}
 
 -- the five packets of step n, heard after all this
 abbrev pub fiveOf : {Message : Type 0} → ℕ → List (Item Message) → List (Item Message)
@@ -17,4 +17,4 @@ wholly Message (n ∷ before) = fiveOf n (wholly Message before)
 abbrev pub Spaced : ℕ → List ℕ → Type 0
 Spaced most [] = Unit
 Spaced most (n ∷ []) = n ≤ most
-Spaced most (n ∷ m ∷ before) = (n ≤ most) × (m < n) × (n ≤ m + 8191) × Spaced most (m ∷ before)
+Spaced most (n ∷ m ∷ before) = (n ≤ most) × (m < n) × (n ≤ m + farthest) × Spaced most (m ∷ before)
