@@ -1,3 +1,4 @@
 pub mod Gathering
 pub mod Hearing
 pub mod Promises
+pub mod Valid

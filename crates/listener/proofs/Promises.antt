@@ -39,7 +39,7 @@ module _ (limit : ℕ) (listener : Listener) where
       pub twice : clashes (with-it .slots) ≡ true
 
     -- every telegram goes one of four ways
-    ways : (P : Heard → Type 0) → P (record { answer = Repeat; listener = listener }) → P (record { answer = Held; listener = holding listener with-it })
+    pub ways : (P : Heard → Type 0) → P (record { answer = Repeat; listener = listener }) → P (record { answer = Held; listener = holding listener with-it })
         → (Clash → P (record { answer = refused 15; listener = holding listener (begun 0) })) → P (record { answer = takenAnswer listener with-it; listener = takenBy limit listener with-it })
         → P (heardOf limit listener t)
     ways P repeat part clash taken =

@@ -10,6 +10,7 @@ use Rattle.condition.specs.Steps.{gapOf}
 use Rattle.condition.specs.declared.verdicts.Verdict.{Verdict}
 use Rattle.condition.specs.declared.verdicts.Verdict.the-variants.{Accepted, Refused}
 use Rattle.telegram.specs.Tables.{slots}
+use Rattle.telegram.specs.Telegrams.{readOf}
 use Rattle.telegram.specs.declared.Reading.{Reading}
 use Rattle.telegram.specs.declared.Telegram.{Telegram}
 use Rattle.picture.specs.Pictures.{countOf, clashes, marksOf}
@@ -83,6 +84,11 @@ afterReading Accepted limit listener t = heardOf limit listener t
 -- M-1b: the answer to what was read from a telegram, and the next listener
 unfoldable pub hearOf : ℕ → Listener → Reading → Heard
 hearOf limit listener reading = afterReading (reading .verdict) limit listener (reading .telegram)
+
+-- R-26: the listener that has heard these bytes, the newest first
+unfoldable pub heardAll : ℕ → List (List ℕ) → Listener
+heardAll limit [] = freshListener
+heardAll limit (bytes ∷ earlier) = hearOf limit (heardAll limit earlier) (readOf bytes) .listener
 
 -- ---- answers in the paper's numbers
 

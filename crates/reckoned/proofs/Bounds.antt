@@ -22,7 +22,7 @@ use Rattle.telegram.specs.Tables.{fourOf}
 use Rattle.telegram.specs.Telegrams.{readOf, readRows, codedAt, takenBefore, telegramOf, bytesOf, written}
 use Rattle.desk.specs.Desks.{rest, tableOf, telegramOf as deskTelegram}
 use Rattle.picture.specs.Pictures.{countOf, hasNumber, isTwice, clashes, isSame, isKnown, isCarried, marksOf}
-use Rattle.listener.specs.Listeners.{carries, freshListener, takenBy, heardOf, hearOf}
+use Rattle.listener.specs.Listeners.{carries, heardAll, freshListener, takenBy, heardOf, hearOf}
 use Rattle.listener.specs.Sets.{begun, setFor, isHeld, joined, isWhole}
 use Rattle.listener.specs.declared.Answer.{Answer}
 use Rattle.listener.specs.declared.Answer.the-variants.{Repeat, Held, Taken}
@@ -32,7 +32,7 @@ use Rattle.claims.specs.Hearings.{Item, sent, wholes}
 use Rattle.claims.specs.Regular.{fiveOf, wholly}
 use Rattle.claims.proofs.Regular.{regular}
 use Rattle.reckoned.specs.Standing.{standing, then-five, blank, listener, answers}
-use Rattle.reckoned.proofs.Standing.{Within, said, stood, fived, wire, hearing, answering, wires, fiveWires, same-listener, same-answers, said-wires, standing-made, desk-five, desk-before-five}
+use Rattle.reckoned.proofs.Standing.{Within, said, stood, fived, wire, answering, wires, fiveWires, same-listener, same-answers, said-wires, standing-made, desk-five, desk-before-five}
 
 -- a table taken with its fifth packet, after others
 abbrev taken : ℕ → ℕ → ℕ → List Answer → List Answer
@@ -46,8 +46,8 @@ module _ (k : ℕ) (at : List ℕ) (inside : Within k at) where
   answers-at : answers (standing k) (heard at) ≡ answering (wires at)
   answers-at = same-answers (standing k) (heard at) ∙ ap answering (said-wires k at inside)
 
-  marks-at : listener (standing k) (heard at) .marks ≡ hearing (wires at) .marks
-  marks-at = ap (λ l. l .marks) (same-listener (standing k) (heard at) ∙ ap hearing (said-wires k at inside))
+  marks-at : listener (standing k) (heard at) .marks ≡ heardAll carries (wires at) .marks
+  marks-at = ap (λ l. l .marks) (same-listener (standing k) (heard at) ∙ ap (heardAll carries) (said-wires k at inside))
 
 -- ---- what the checker computes, of the bytes
 
@@ -58,14 +58,14 @@ abbrev pub none-marked : List Bool
 none-marked = replicate 20 false
 
 computed : (answering (wires (8209 ∷ 18 ∷ 9 ∷ 1 ∷ [])) ≡ taken 17 1 8191 (taken 18 1 9 (taken 9 1 8 (taken 1 1 0 []))))
-    × (hearing (wires (9 ∷ 1 ∷ [])) .marks ≡ one-marked)
-    × (hearing (wires (18 ∷ 9 ∷ 1 ∷ [])) .marks ≡ none-marked)
-    × (hearing (wires (8209 ∷ 18 ∷ 9 ∷ 1 ∷ [])) .marks ≡ none-marked)
+    × (heardAll carries (wires (9 ∷ 1 ∷ [])) .marks ≡ one-marked)
+    × (heardAll carries (wires (18 ∷ 9 ∷ 1 ∷ [])) .marks ≡ none-marked)
+    × (heardAll carries (wires (8209 ∷ 18 ∷ 9 ∷ 1 ∷ [])) .marks ≡ none-marked)
     × (answering (wires (8194 ∷ 1 ∷ [])) ≡ taken 2 1 1 (taken 1 1 0 []))
-    × (hearing (wires (8194 ∷ 1 ∷ [])) .marks ≡ one-marked)
+    × (heardAll carries (wires (8194 ∷ 1 ∷ [])) .marks ≡ one-marked)
     × (answering (fiveWires (fived 1) (wires (1 ∷ []))) ≡ Repeat ∷ Repeat ∷ Repeat ∷ Repeat ∷ Repeat ∷ taken 1 1 0 [])
     × (answering (fiveWires (fived 1) (wire (stood 1) 3 ∷ [])) ≡ Taken 1 2 0 ∷ Held ∷ Held ∷ Held ∷ Repeat ∷ Held ∷ [])
-unfolding answering hearing wires hearOf heardOf ladder setFor begun isHeld joined isWhole count fold takenBy marksOf isCarried isKnown isSame scan clashes isTwice hasNumber countOf freshListener readOf verdictOf readRows each codedAt takenBefore slotRows secondAllowed secondHeld isConsidered telegramOf bodyOf bytesOf written sixOf codedOf fourOf tableOf deskTelegram gapOf
+unfolding answering heardAll wires hearOf heardOf ladder setFor begun isHeld joined isWhole count fold takenBy marksOf isCarried isKnown isSame scan clashes isTwice hasNumber countOf freshListener readOf verdictOf readRows each codedAt takenBefore slotRows secondAllowed secondHeld isConsidered telegramOf bodyOf bytesOf written sixOf codedOf fourOf tableOf deskTelegram gapOf
 computed = (refl, refl, refl, refl, refl, refl, refl, refl)
 
 -- ---- within the bound

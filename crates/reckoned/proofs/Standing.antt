@@ -27,9 +27,8 @@ use Rattle.claims.specs.Demand3.{bytesIn, message, listenerAfter}
 use Rattle.claims.specs.Hearings.{Item}
 use Rattle.claims.specs.Regular.{wholly}
 use Rattle.telegram.specs.Telegrams.{readOf, written}
-use Rattle.listener.specs.Listeners.{carries, freshListener, hearOf}
+use Rattle.listener.specs.Listeners.{carries, heardAll, hearOf}
 use Rattle.listener.specs.declared.Answer.{Answer}
-use Rattle.listener.specs.declared.Listener.{Listener}
 use Rattle.claims.proofs.History.{accepted-more, up-to-before, up-to-all}
 use Rattle.reckoned.specs.Reckoned.{order, orders}
 use Rattle.reckoned.specs.Standing.{standing, then-five, blank, listener, answers}
@@ -128,14 +127,10 @@ module _ (k : ℕ) where
 
 -- ---- the listener on messages
 
--- the listener that has heard these bytes, the newest first, and its answers
-unfoldable pub hearing : List (List ℕ) → Listener
-hearing [] = freshListener
-hearing (bytes ∷ earlier) = hearOf carries (hearing earlier) (readOf bytes) .listener
-
+-- its answers to these bytes, the newest first
 unfoldable pub answering : List (List ℕ) → List Answer
 answering [] = []
-answering (bytes ∷ earlier) = hearOf carries (hearing earlier) (readOf bytes) .answer ∷ answering earlier
+answering (bytes ∷ earlier) = hearOf carries (heardAll carries earlier) (readOf bytes) .answer ∷ answering earlier
 
 -- packet p of a desk's table
 abbrev pub wire : Desk → ℕ → List ℕ
@@ -145,8 +140,8 @@ module _ (calls : List (List ℕ)) where
   abbrev pub said : Item (List ℕ) → List ℕ
   said item = message rest carries (bytesIn blank) calls item
 
-  pub same-listener : (heard : List (Item (List ℕ))) → listener calls heard ≡ hearing (map said heard)
-  unfolding listenerAfter hearing
+  pub same-listener : (heard : List (Item (List ℕ))) → listener calls heard ≡ heardAll carries (map said heard)
+  unfolding listenerAfter heardAll
   same-listener [] = refl
   same-listener (item ∷ heard) = ap (λ l. hearOf carries l (readOf (said item)) .listener) (same-listener heard)
 
