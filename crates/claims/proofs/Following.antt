@@ -26,7 +26,7 @@ use Rattle.listener.specs.declared.Last.the-variants.{Step}
 use Rattle.listener.specs.declared.Listener.{Listener}
 use Rattle.listener.specs.declared.sets.Hand.{Hand}
 use Rattle.listener.proofs.Gathering.{Gathered, gathered-none, gathered-as, gathered-held, gathered-more, gathered-whole, gathered-table, set-same, set-other, set-first}
-use Rattle.listener.proofs.Hearing.{hear-refused, hear-accepted, heard-last, heard-copy, heard-part, heard-taken}
+use Rattle.listener.proofs.Hearing.{hear-refused, hear-accepted, heard-last, heard-copy, heard-part, heard-taken, fresh-picture, fresh-last, fresh-hand, taken-picture, taken-last, taken-marks, taken-hand}
 use Rattle.claims.specs.Calls.{stepsMade, tableIn}
 use Rattle.claims.specs.Hearings.{Item, sent, spoilt, wasHeard, isWhole, wholes, firstOr, NoneAfter, newestOr, farthest, Near}
 use Rattle.claims.specs.Demand3.{Binding, message, listenerAfter, Sent, Premises, nothing, next, late, damaged, pictureOf, lastOf, distance, PutRight, expected, Answered}
@@ -227,16 +227,14 @@ module _ (rest limit : ℕ) {Message : Type 0} (binding : Binding Message) (call
         answer-is = rw (gathered .own-step, table-is, gap-is l (v .shown)) refl
 
         shown-taken : Shown (n ∷ wholes r) (takenBy limit l with-it)
-        unfolding takenBy
         shown-taken = record {
-          picture = table-is;
-          last = ap Step (gathered .own-step);
-          marks = rw (gathered .own-step, table-is, gap-is l (v .shown), v .shown .picture) refl;
+          picture = taken-picture limit l with-it ∙ table-is;
+          last = taken-last limit l with-it ∙ ap Step (gathered .own-step);
+          marks = taken-marks limit l with-it ∙ rw (gathered .own-step, table-is, gap-is l (v .shown), v .shown .picture) refl;
         }
 
         hand-taken : InHand (sent n p ∷ r) (takenBy limit l with-it .hand)
-        unfolding takenBy
-        hand-taken = idle refl (λ k later part q.
+        hand-taken = idle (taken-hand limit l with-it) (λ k later part q.
             let other : k ≡ n → ⊥ = λ same. whole-apart (sent n p ∷ r) n k whole part (sym same) in
             heard-other n p r k q other ∙ heard-above k n r q after (omega (arith, later .0, other)))
 
@@ -332,8 +330,8 @@ module _ (rest limit : ℕ) {Message : Type 0} (binding : Binding Message) (call
     Following r = Rel r (listenerAfter rest limit binding calls r) × Answered rest limit binding calls r
 
     following : (r : List (Item Message)) → Premises rest limit binding calls r → Following r
-    unfolding listenerAfter wholes freshListener wasHeard Follows
-    following r nothing = (record { shown = record { picture = refl; last = refl; marks = refl }; hand = idle refl (λ n after part q. refl) }, tt)
+    unfolding listenerAfter wholes wasHeard Follows
+    following r nothing = (record { shown = record { picture = fresh-picture; last = fresh-last; marks = refl }; hand = idle fresh-hand (λ n after part q. refl) }, tt)
     following r (next {earlier} n p h s after bound) =
         subst (Follows (sent n p) earlier) (sym (heard-as (listenerAfter rest limit binding calls earlier) n p s)) (follow-next (listenerAfter rest limit binding calls earlier) n p earlier h s after bound (following earlier h .0))
     following r (late {earlier} n p before h s newest) =

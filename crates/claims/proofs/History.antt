@@ -26,7 +26,7 @@ use Rattle.desk.proofs.Making.{accepts, refuses}
 use Rattle.desk.proofs.Seating.{ordered}
 use Rattle.desk.proofs.Stepping.{Sound}
 use Rattle.desk.proofs.Tables.{table-at, table-held, table-long, table-distinct}
-use Rattle.desk.proofs.Tracing.{at, run-sound, run-step, same-number, persists, live-newest, newest-live}
+use Rattle.desk.proofs.Tracing.{at, run-none, run-more, run-sound, run-step, same-number, persists, live-newest, newest-live}
 use Rattle.picture.specs.Pictures.{clashes}
 use Rattle.picture.proofs.Carrying.{InPicture, no-clash}
 use Rattle.claims.specs.Calls.{deskAfter, accepted, stepsMade, upTo, deskOf, tableIn, orderIn, StoodIn, StoodFrom}
@@ -66,8 +66,8 @@ module _ (rest : ℕ) where
 
   -- the calls make a run of accepted lists
   pub desk-run : (calls : List (List ℕ)) → (deskAfter rest calls ≡ run rest rest (accepted rest calls)) × Accepted rest rest (accepted rest calls)
-  unfolding deskAfter accepted run
-  desk-run [] = (refl, tt)
+  unfolding deskAfter accepted
+  desk-run [] = (sym (run-none rest rest), tt)
   desk-run (list ∷ calls) = go (desk-run calls)
     where
       go : (deskAfter rest calls ≡ run rest rest (accepted rest calls)) × Accepted rest rest (accepted rest calls)
@@ -76,7 +76,7 @@ module _ (rest : ℕ) where
           one-call calls list
           (λ e.
           rw (accepts-one calls list e .1)
-          (accepts-one calls list e .0 ∙ ap (λ desk. stepOf rest desk list) same, (subst (λ (desk : Desk). listRefusal (desk .places) list ≡ 0) same e, good)))
+          (accepts-one calls list e .0 ∙ (ap (λ desk. stepOf rest desk list) same ∙ sym (run-more rest rest list (accepted rest calls))), (subst (λ (desk : Desk). listRefusal (desk .places) list ≡ 0) same e, good)))
           (λ n. rw (refuses-one calls list n .1) (refuses-one calls list n .0 ∙ same, good))
 
   made-more : (calls : List (List ℕ)) (list : List ℕ) → stepsMade rest (list ∷ calls) ≤ stepsMade rest calls + 1

@@ -6,7 +6,6 @@ use mathlib.Core.List.{List, [], _∷_}
 use lib.Dec.{eqb, ltb}
 use native.Mathlib.Omega.{arith}
 use borrow.Author.Tests.{eqb-true, eqb-false, eq-eqb, ne-eqb, ltb-true, ltb-false}
-use Rattle.kit.specs.Loops.{count, fold}
 use Rattle.kit.proofs.Cases.{on, clash, and-both}
 use Rattle.kit.proofs.Loops.{count-all, all-counted, count-same}
 use Rattle.telegram.specs.Tables.{packets, firstPacket}
@@ -121,5 +120,5 @@ module _ {Message : Type 0} where
 
 -- of nothing heard no table is whole
 pub nothing-whole : (Message : Type 0) (n : ℕ) → isWhole {Message = Message} [] n ≡ false
-unfolding isWhole wasHeard count fold
-nothing-whole Message n = refl
+unfolding wasHeard
+nothing-whole Message n = on (isWhole {Message = Message} [] n) (λ w. absurd (clash (whole-heard [] n w 0 (omega arith)) refl)) (λ w. w)

@@ -140,6 +140,15 @@ module _ (rows : ℕ) where
 
 -- ---- a run of steps
 
+-- a fresh desk, and one list more
+pub run-none : (rest rows : ℕ) → run rest rows [] ≡ freshWith rows
+unfolding run
+run-none rest rows = refl
+
+pub run-more : (rest rows : ℕ) (l : List ℕ) (h : List (List ℕ)) → run rest rows (l ∷ h) ≡ stepOf rest (run rest rows h) l
+unfolding run
+run-more rest rows l h = refl
+
 module _ (rest rows : ℕ) (enough : rest ≤ rows) (few : rows ≤ 11) where
   pub run-sound : (h : List (List ℕ)) → Accepted rest rows h → Sound rows (run rest rows h)
   unfolding run

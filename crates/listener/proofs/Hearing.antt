@@ -1,22 +1,25 @@
 -- The ways through hearing, one law each: what is refused, the two repeats, a telegram that is held, a set that clashes and a table
 -- that is taken.
 use Prim.Native.Nat.{ℕ}
+use mathlib.Core.Logic.{inl, inr}
 use mathlib.Core.Path.{_≡_, refl, ap}
-use mathlib.Core.Bool.{true, false}
+use mathlib.Core.Bool.{true, false, not}
 use lib.Dec.{ltb}
 use lib.ListN.{replicate, getD-replicate, List·getD-eq-default}
 use native.Mathlib.Omega.{arith}
 use borrow.Author.Tests.{ltb-true, ltb-false}
-use Rattle.kit.specs.Ladder.{ladder}
+use Rattle.kit.proofs.Ladder.{ladder-decides, ladder-silent}
 use Rattle.kit.proofs.Cases.{on}
 use Rattle.telegram.specs.Tables.{slots}
+use Rattle.condition.specs.Slots.{emptySlot}
 use Rattle.condition.specs.declared.verdicts.Verdict.the-variants.{Accepted, Refused}
 use Rattle.telegram.specs.declared.Reading.{Reading}
 use Rattle.telegram.specs.declared.Telegram.{Telegram}
-use Rattle.picture.specs.Pictures.{clashes}
+use Rattle.picture.specs.Pictures.{clashes, marksOf}
 use Rattle.listener.specs.Sets.{begun, setFor, isHeld, joined, isWhole}
-use Rattle.listener.specs.Listeners.{freshListener, markAt, isLast, holding, takenBy, takenAnswer, heardOf, afterReading, hearOf}
+use Rattle.listener.specs.Listeners.{freshListener, markAt, gapFrom, isLast, holding, takenBy, takenAnswer, heardOf, afterReading, hearOf}
 use Rattle.listener.specs.declared.Answer.the-variants.{Refused as refused, Repeat, Held}
+use Rattle.listener.specs.declared.Last.the-variants.{Never, Step}
 use Rattle.listener.specs.declared.Listener.{Listener}
 use Rattle.listener.specs.declared.sets.Hand.{Hand}
 
@@ -40,37 +43,67 @@ module _ (limit : ℕ) (listener : Listener) where
 
     -- L-01
     pub heard-last : isLast (listener .last) (t .step) ≡ true → heardOf limit listener t ≡ record { answer = Repeat; listener = listener }
-    unfolding heardOf ladder
-    heard-last a = rw a refl
+    unfolding heardOf
+    heard-last a = ladder-decides _ _ _ (inl (a, refl))
 
     module _ (a : isLast (listener .last) (t .step) ≡ false) where
       -- L-02
       pub heard-copy : isHeld set (t .packet) ≡ true → heardOf limit listener t ≡ record { answer = Repeat; listener = listener }
-      unfolding heardOf ladder
-      heard-copy b = rw (a, b) refl
+      unfolding heardOf
+      heard-copy b = ladder-decides _ _ _ (inr (a, inl (b, refl)))
 
       module _ (b : isHeld set (t .packet) ≡ false) where
         -- L-03
         pub heard-part : isWhole with-it ≡ false → heardOf limit listener t ≡ record { answer = Held; listener = holding listener with-it }
-        unfolding heardOf ladder
-        heard-part c = rw (a, b, c) refl
+        unfolding heardOf
+        heard-part c = ladder-decides _ _ _ (inr (a, inr (b, inl (ap not c, refl))))
 
         -- L-09, L-10
         pub heard-clash : isWhole with-it ≡ true → clashes (with-it .slots) ≡ true
             → heardOf limit listener t ≡ record { answer = refused 15; listener = holding listener (begun 0) }
-        unfolding heardOf ladder
-        heard-clash c d = rw (a, b, c, d) refl
+        unfolding heardOf
+        heard-clash c d = ladder-decides _ _ _ (inr (a, inr (b, inr (ap not c, inl (d, refl)))))
 
         -- L-04
         pub heard-taken : isWhole with-it ≡ true → clashes (with-it .slots) ≡ false
             → heardOf limit listener t ≡ record { answer = takenAnswer listener with-it; listener = takenBy limit listener with-it }
-        unfolding heardOf ladder
-        heard-taken c d = rw (a, b, c, d) refl
+        unfolding heardOf
+        heard-taken c d = ladder-silent _ _ (a, (b, (ap not c, (d, tt))))
 
--- A-20: a fresh listener has no mark
+-- A-20: a fresh listener: an empty picture with no mark, no step taken, no set in hand
+pub fresh-picture : freshListener .picture ≡ replicate slots emptySlot
+unfolding freshListener
+fresh-picture = refl
+
+pub fresh-last : freshListener .last ≡ Never
+unfolding freshListener
+fresh-last = refl
+
+pub fresh-hand : freshListener .hand ≡ begun 0
+unfolding freshListener
+fresh-hand = refl
+
 pub fresh-unmarked : (i : ℕ) → markAt (freshListener .marks) i ≡ false
 unfolding freshListener
 fresh-unmarked i =
     on (ltb i slots)
     (λ e. getD-replicate slots i false false (ltb-true i slots e))
     (λ e. List·getD-eq-default (replicate slots false) false {n = i} (omega (arith, ltb-false i slots e)))
+
+-- L-04 to L-07: a listener that has taken a set
+module _ (limit : ℕ) (listener : Listener) (set : Hand) where
+  pub taken-picture : takenBy limit listener set .picture ≡ set .slots
+  unfolding takenBy
+  taken-picture = refl
+
+  pub taken-last : takenBy limit listener set .last ≡ Step (set .step)
+  unfolding takenBy
+  taken-last = refl
+
+  pub taken-marks : takenBy limit listener set .marks ≡ marksOf limit (gapFrom (listener .last) (set .step)) (listener .picture) (set .slots)
+  unfolding takenBy
+  taken-marks = refl
+
+  pub taken-hand : takenBy limit listener set .hand ≡ begun 0
+  unfolding takenBy
+  taken-hand = refl
