@@ -1,6 +1,6 @@
 -- `slot_in`: past the table's end a slot is empty.
 use Prim.Native.Nat.{_≤_}
-use mathlib.Core.Path.{sym, _∙_}
+use mathlib.Core.Path.{refl, sym, _∙_}
 use native.Mathlib.Omega.{arith}
 use lib.ListN.{length, List·getD-eq-default}
 use Rattle.condition.specs.Slots.{emptySlot}
@@ -15,7 +15,7 @@ array-copy-out-result : tie.Need-array-copy-out-result
 array-copy-out-result c = search needs
 
 returns : tie.Need-returns
-returns c = search needs
+returns c = refl
 
 empty-requires : tie.Need-empty-requires
 empty-requires c κs = search needs
