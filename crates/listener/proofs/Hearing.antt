@@ -30,6 +30,10 @@ module _ (limit : ℕ) (listener : Listener) where
   hear-refused reading number e = ap (λ v. afterReading v limit listener (reading .telegram)) e
 
   -- what it accepts is heard
+  pub hear-as : (reading : Reading) → reading .verdict ≡ Accepted → hearOf limit listener reading ≡ heardOf limit listener (reading .telegram)
+  unfolding hearOf
+  hear-as reading e = ap (λ v. afterReading v limit listener (reading .telegram)) e
+
   pub hear-accepted : (t : Telegram) → hearOf limit listener (record { verdict = Accepted; telegram = t }) ≡ heardOf limit listener t
   unfolding hearOf
   hear-accepted t = refl

@@ -1,29 +1,35 @@
--- What the listener promises of every telegram, whatever it holds (demand 1): the reader's refusals come first and change nothing, 15
--- comes last and exactly when the fifth packet brings a clash, and it drops the set in hand and nothing else.
-use Prim.Native.Nat.{ℕ}
-use mathlib.Core.Path.{_≡_, sym, subst}
-use mathlib.Core.Bool.{true, false}
+-- What the listener promises of every telegram, whatever it holds (demand 1): a refusal is given exactly when its row holds and none
+-- earlier does, the reader's rows before the repeat rules and 15 last; and only 15 alters the listener, by dropping the set in hand.
+use Prim.Native.Nat.{ℕ, _≤_}
+use mathlib.Core.Path.{_≡_, refl, sym, ap, _∙_, subst}
+use mathlib.Core.Logic.{_⊎_, inl, inr, _↔_}
 use mathlib.Core.List.{List}
 use native.Mathlib.Omega.{arith}
-use Rattle.kit.specs.Ladder.{Decides}
-use Rattle.kit.proofs.Cases.{on}
+use Rattle.kit.specs.Ladder.{ladder, Decides, Silent, Numbered}
+use Rattle.kit.proofs.Cases.{on, given}
+use Rattle.kit.proofs.Ladder.{ladder-decides, ladder-silent, climb, ladder-append, numbered-append, decides-positive, refused-exactly}
 use Rattle.telegram.specs.Telegrams.{readRows, readOf}
 use Rattle.telegram.specs.declared.Telegram.{Telegram}
-use Rattle.telegram.proofs.Refusals.{reading-refused}
+use Rattle.telegram.proofs.Refusals.{reading-refused, reading-accepted}
+use Rattle.telegram.proofs.Rows.{read-numbered}
 use Rattle.picture.specs.Pictures.{clashes}
 use Rattle.listener.specs.Sets.{begun, setFor, isHeld, joined, isWhole}
-use Rattle.listener.specs.Listeners.{isLast, holding, takenAnswer, takenBy, heardOf, hearOf}
-use Rattle.listener.specs.declared.Answer.the-variants.{Refused as refused, Repeat, Held}
+use Rattle.listener.specs.Listeners.{isLast, holding, takenAnswer, takenBy, heardOf, hearOf, clashRow, hearRows, numberOf}
+use Rattle.listener.specs.declared.Answer.{Answer}
+use Rattle.listener.specs.declared.Answer.the-variants.{Refused as refused, Repeat, Held, Taken}
 use Rattle.listener.specs.declared.Heard.{Heard}
 use Rattle.listener.specs.declared.Listener.{Listener}
 use Rattle.listener.specs.declared.sets.Hand.{Hand}
-use Rattle.listener.proofs.Hearing.{hear-refused, heard-last, heard-copy, heard-part, heard-clash, heard-taken}
+use Rattle.listener.proofs.Hearing.{hear-refused, hear-as, heard-last, heard-copy, heard-part, heard-clash, heard-taken}
+
+-- an answer with a number above 0 is the refusal with that number
+refused-number : (answer : Answer) (number : ℕ) → 1 ≤ number → numberOf answer ≡ number → answer ≡ refused number
+refused-number (refused n) number p e = ap refused e
+refused-number Repeat number p e = absurd (omega arith)
+refused-number Held number p e = absurd (omega arith)
+refused-number (Taken step count gap) number p e = absurd (omega arith)
 
 module _ (limit : ℕ) (listener : Listener) where
-  -- R-20, R-23, R-24: what a row of reading refuses is refused under its number, and nothing changes
-  pub refused-by : (bytes : List ℕ) (number : ℕ) → Decides (readRows bytes) number → hearOf limit listener (readOf bytes) ≡ record { answer = refused number; listener = listener }
-  refused-by bytes number d = hear-refused limit listener (readOf bytes) number (reading-refused bytes number .1 d)
-
   module _ (t : Telegram) where
     abbrev set : Hand
     set = setFor (listener .hand) (t .step)
@@ -31,40 +37,83 @@ module _ (limit : ℕ) (listener : Listener) where
     abbrev with-it : Hand
     with-it = joined set t
 
-    -- R-15, R-21, L-09: no repeat, the fifth packet, and a number twice across the set
-    pub record Clash : Type 0 where
-      pub new : isLast (listener .last) (t .step) ≡ false
-      pub first : isHeld set (t .packet) ≡ false
-      pub fifth : isWhole with-it ≡ true
-      pub twice : clashes (with-it .slots) ≡ true
-
-    -- every telegram goes one of four ways
-    pub ways : (P : Heard → Type 0) → P (record { answer = Repeat; listener = listener }) → P (record { answer = Held; listener = holding listener with-it })
-        → (Clash → P (record { answer = refused 15; listener = holding listener (begun 0) })) → P (record { answer = takenAnswer listener with-it; listener = takenBy limit listener with-it })
-        → P (heardOf limit listener t)
+    -- every telegram that the reader accepts goes one of four ways, and is refused in one of them
+    pub ways : (P : Heard → ℕ → Type 0) → P (record { answer = Repeat; listener = listener }) 0 → P (record { answer = Held; listener = holding listener with-it }) 0
+        → P (record { answer = refused 15; listener = holding listener (begun 0) }) 15 → P (record { answer = takenAnswer listener with-it; listener = takenBy limit listener with-it }) 0
+        → P (heardOf limit listener t) (ladder 0 (clashRow listener t))
     ways P repeat part clash taken =
         on (isLast (listener .last) (t .step))
-        (λ a. subst P (sym (heard-last limit listener t a)) repeat)
+        (λ a. both (heard-last limit listener t a) (ladder-silent 0 (clashRow listener t) (rw a refl, tt)) repeat)
         (λ a.
         on (isHeld set (t .packet))
-        (λ b. subst P (sym (heard-copy limit listener t a b)) repeat)
+        (λ b. both (heard-copy limit listener t a b) (ladder-silent 0 (clashRow listener t) (rw (a, b) refl, tt)) repeat)
         (λ b.
         on (isWhole with-it)
         (λ c.
         on (clashes (with-it .slots))
-        (λ d. subst P (sym (heard-clash limit listener t a b c d)) (clash (record { new = a; first = b; fifth = c; twice = d })))
-        (λ d. subst P (sym (heard-taken limit listener t a b c d)) taken))
-        (λ c. subst P (sym (heard-part limit listener t a b c)) part)))
+        (λ d. both (heard-clash limit listener t a b c d) (ladder-decides 0 15 (clashRow listener t) (inl (rw (a, b, c, d) refl, refl))) clash)
+        (λ d. both (heard-taken limit listener t a b c d) (ladder-silent 0 (clashRow listener t) (rw (a, b, c, d) refl, tt)) taken))
+        (λ c. both (heard-part limit listener t a b c) (ladder-silent 0 (clashRow listener t) (rw (a, b, c) refl, tt)) part)))
+      where
+        both : {h : Heard} {n : ℕ} → heardOf limit listener t ≡ h → ladder 0 (clashRow listener t) ≡ n → P h n → P (heardOf limit listener t) (ladder 0 (clashRow listener t))
+        both {h} {n} e f p = subst (λ x. P x (ladder 0 (clashRow listener t))) (sym e) (subst (P h) (sym f) p)
 
-    -- R-15, R-23: of what the reader accepts, only such a telegram is refused, under 15
-    pub only-15 : (number : ℕ) → heardOf limit listener t .answer ≡ refused number → (number ≡ 15) × Clash
-    only-15 number =
-        ways (λ h. h .answer ≡ refused number → (number ≡ 15) × Clash)
-        (λ e. let z : _≡_ {A = ℕ} 0 1 = cc in absurd (omega arith))
-        (λ e. let z : _≡_ {A = ℕ} 0 1 = cc in absurd (omega arith))
-        (λ c e. let z : 15 ≡ number = cc in (sym z, c))
-        (λ e. let z : _≡_ {A = ℕ} 0 1 = cc in absurd (omega arith))
+  module _ (bytes : List ℕ) where
+    -- what the listener answers, and what it is then
+    abbrev heard : Heard
+    heard = hearOf limit listener (readOf bytes)
 
-    -- L-10: and then the set in hand is dropped; picture, marks and last step stay
-    pub clash-drops : Clash → heardOf limit listener t ≡ record { answer = refused 15; listener = holding listener (begun 0) }
-    clash-drops c = heard-clash limit listener t (c .new) (c .first) (c .fifth) (c .twice)
+    -- R-20, R-21: the number that is given is that of the first row that holds
+    pub number-given : numberOf (heard .answer) ≡ ladder 0 (hearRows listener bytes)
+    number-given = go (climb 0 (readRows bytes))
+      where
+        go : Decides (readRows bytes) (ladder 0 (readRows bytes)) ⊎ Silent (readRows bytes) → numberOf (heard .answer) ≡ ladder 0 (hearRows listener bytes)
+        go (inl d) =
+            let number : ℕ = ladder 0 (readRows bytes) in
+            ap (λ (h : Heard). numberOf (h .answer)) (hear-refused limit listener (readOf bytes) number (reading-refused bytes number .1 d))
+            ∙ sym (ladder-append 0 (readRows bytes) (clashRow listener (readOf bytes .telegram)) ∙ ladder-decides (ladder 0 (clashRow listener (readOf bytes .telegram))) number (readRows bytes) d)
+        go (inr s) =
+            ap (λ (h : Heard). numberOf (h .answer)) (hear-as limit listener (readOf bytes) (reading-accepted bytes .1 s))
+            ∙ (ways (readOf bytes .telegram) (λ h n. numberOf (h .answer) ≡ n) refl refl refl refl
+            ∙ sym (ladder-append 0 (readRows bytes) (clashRow listener (readOf bytes .telegram)) ∙ ladder-silent (ladder 0 (clashRow listener (readOf bytes .telegram))) (readRows bytes) s))
+
+    rows-numbered : Numbered (hearRows listener bytes)
+    rows-numbered = numbered-append (readRows bytes) (clashRow listener (readOf bytes .telegram)) (read-numbered bytes) (omega arith)
+
+    -- a refusal has a number above 0
+    positive : (number : ℕ) → heard .answer ≡ refused number → 1 ≤ number
+    positive number e = go (climb 0 (readRows bytes))
+      where
+        go : Decides (readRows bytes) (ladder 0 (readRows bytes)) ⊎ Silent (readRows bytes) → 1 ≤ number
+        go (inl d) =
+            let own : refused (ladder 0 (readRows bytes)) ≡ refused number =
+            sym (ap (λ (h : Heard). h .answer) (hear-refused limit listener (readOf bytes) (ladder 0 (readRows bytes)) (reading-refused bytes (ladder 0 (readRows bytes)) .1 d))) ∙ e in
+            omega (arith, ap numberOf own, decides-positive (readRows bytes) (ladder 0 (readRows bytes)) (read-numbered bytes) d)
+        go (inr s) =
+            ways (readOf bytes .telegram) (λ h n. h .answer ≡ refused number → 1 ≤ number)
+            (λ f. let z : _≡_ {A = ℕ} 0 1 = cc in absurd (omega arith))
+            (λ f. let z : _≡_ {A = ℕ} 0 1 = cc in absurd (omega arith))
+            (λ f. omega (arith, ap numberOf f))
+            (λ f. let z : _≡_ {A = ℕ} 0 1 = cc in absurd (omega arith))
+            (sym (ap (λ (h : Heard). h .answer) (hear-as limit listener (readOf bytes) (reading-accepted bytes .1 s))) ∙ e)
+
+    -- R-23: a refusal is given when its row holds and nothing earlier does, and never else
+    pub refused-when : (number : ℕ) → (heard .answer ≡ refused number) ↔ Decides (hearRows listener bytes) number
+    refused-when number = (
+      λ e. refused-exactly (hearRows listener bytes) rows-numbered number (positive number e) .0 (sym number-given ∙ ap numberOf e),
+      λ d.
+          let above : 1 ≤ number = decides-positive (hearRows listener bytes) number rows-numbered d in
+          refused-number (heard .answer) number above (number-given ∙ refused-exactly (hearRows listener bytes) rows-numbered number above .1 d),
+    )
+
+    -- R-24, L-11: what the reader refuses changes nothing
+    pub refused-unchanged : (number : ℕ) → Decides (readRows bytes) number → heard ≡ record { answer = refused number; listener = listener }
+    refused-unchanged number d = hear-refused limit listener (readOf bytes) number (reading-refused bytes number .1 d)
+
+    -- L-09, L-10: 15 drops the set in hand; picture, marks and last step stay
+    pub clash-drops : Silent (readRows bytes) → Decides (clashRow listener (readOf bytes .telegram)) 15 → heard ≡ record { answer = refused 15; listener = holding listener (begun 0) }
+    clash-drops s d =
+        hear-as limit listener (readOf bytes) (reading-accepted bytes .1 s)
+        ∙ ways (readOf bytes .telegram) (λ h n. n ≡ 15 → h ≡ record { answer = refused 15; listener = holding listener (begun 0) })
+        (λ e. absurd (omega arith)) (λ e. absurd (omega arith)) (λ e. refl) (λ e. absurd (omega arith))
+        (ladder-decides 0 15 (clashRow listener (readOf bytes .telegram)) d)

@@ -60,7 +60,7 @@ module _ (limit : ℕ) where
   heard-sound listener t s own =
       let more : AllHeld (joined (setFor (listener .hand) (t .step)) t .slots) =
       joined-held (setFor (listener .hand) (t .step)) t (set-held (listener .hand) (t .step) (s .hand)) own in
-      ways limit listener t (λ h. Sound (h .listener)) s (record { picture = s .picture; hand = more }) (λ c. record { picture = s .picture; hand = begun-held 0 })
+      ways limit listener t (λ h number. Sound (h .listener)) s (record { picture = s .picture; hand = more }) (record { picture = s .picture; hand = begun-held 0 })
       (record { picture = more; hand = begun-held 0 })
 
   read-sound : (listener : Listener) (t : Telegram) (verdict : Verdict) → Sound listener → ((k : ℕ) → Held (slotOn t k)) → Sound (afterReading verdict limit listener t .listener)

@@ -1,7 +1,7 @@
 -- The listener: document 01, "The listener", sentence by sentence, and "Refusal numbers" on hearing.
 use Prim.Native.Nat.{ℕ}
-use mathlib.Core.Bool.{Bool, false, not}
-use mathlib.Core.List.{List, [], _∷_}
+use mathlib.Core.Bool.{Bool, false, not, _&&_}
+use mathlib.Core.List.{List, [], _∷_, _++_}
 use lib.Dec.{eqb}
 use lib.ListN.{getD, replicate}
 use Rattle.kit.specs.Ladder.{ladder}
@@ -10,7 +10,7 @@ use Rattle.condition.specs.Steps.{gapOf}
 use Rattle.condition.specs.declared.verdicts.Verdict.{Verdict}
 use Rattle.condition.specs.declared.verdicts.Verdict.the-variants.{Accepted, Refused}
 use Rattle.telegram.specs.Tables.{slots}
-use Rattle.telegram.specs.Telegrams.{readOf}
+use Rattle.telegram.specs.Telegrams.{readRows, readOf}
 use Rattle.telegram.specs.declared.Reading.{Reading}
 use Rattle.telegram.specs.declared.Telegram.{Telegram}
 use Rattle.picture.specs.Pictures.{countOf, clashes, marksOf}
@@ -56,7 +56,7 @@ takenBy limit listener set =
       hand = begun 0;
     }
 
--- L-04, L-05, C-09: what is answered then: step number, conditions and gap
+-- L-04, L-05, C-09, C-12: what is answered then: step number, conditions and gap
 abbrev pub takenAnswer : Listener → Hand → Answer
 takenAnswer listener set = Taken (set .step) (countOf (set .slots)) (gapFrom (listener .last) (set .step))
 
@@ -90,7 +90,18 @@ unfoldable pub heardAll : ℕ → List (List ℕ) → Listener
 heardAll limit [] = freshListener
 heardAll limit (bytes ∷ earlier) = hearOf limit (heardAll limit earlier) (readOf bytes) .listener
 
--- ---- answers in the paper's numbers
+-- ---- refusals in the paper's numbers
+
+-- R-15, R-21: number twice across the set, judged last: of a telegram that is no repeat and the fifth of its set
+abbrev pub clashRow : Listener → Telegram → List (Bool × ℕ)
+clashRow listener t =
+    let set = setFor (listener .hand) (t .step) in
+    let with-it = joined set t in
+    (not (isLast (listener .last) (t .step)) && (not (isHeld set (t .packet)) && (isWhole with-it && clashes (with-it .slots))), 15) ∷ []
+
+-- R-20, R-21: hearing: 10, 11, then the first bad slot, within it 12, 13, 6, 14; 15 last
+abbrev pub hearRows : Listener → List ℕ → List (Bool × ℕ)
+hearRows listener bytes = readRows bytes ++ clashRow listener (readOf bytes .telegram)
 
 -- C-12: the number of a refusal, and 0 where nothing is refused
 abbrev pub numberOf : Answer → ℕ
@@ -98,13 +109,6 @@ numberOf (refused number) = number
 numberOf Repeat = 0
 numberOf Held = 0
 numberOf (Taken step count gap) = 0
-
--- C-12, G-03: of a table taken its step, conditions and gap
-abbrev pub valuesOf : Answer → List ℕ
-valuesOf (refused number) = []
-valuesOf Repeat = []
-valuesOf Held = []
-valuesOf (Taken step count gap) = step ∷ count ∷ gap ∷ []
 
 -- L-06: the mark of slot i; past the table's end, false
 abbrev pub markAt : List Bool → ℕ → Bool
