@@ -15,7 +15,8 @@ use Rattle.condition.specs.Verdicts.{numberOf}
 use Rattle.condition.proofs.Round.{gap-true}
 use Rattle.condition.specs.declared.slots.Slot.{Slot}
 use Rattle.condition.specs.declared.verdicts.Verdict.the-variants.{Accepted}
-use Rattle.telegram.specs.Tables.{slots, packets, firstPacket, fourOf}
+use Rattle.telegram.specs.Tables.{packets, firstPacket, fourOf}
+use Rattle.condition.specs.Slots.{slots}
 use Rattle.telegram.specs.declared.Telegram.{Telegram}
 use Rattle.picture.specs.Pictures.{countOf, clashes, marksOf}
 use Rattle.listener.specs.Sets.{begun, setFor, isHeld, joined, isWhole as isGathered}
@@ -26,7 +27,7 @@ use Rattle.listener.specs.declared.Last.the-variants.{Step}
 use Rattle.listener.specs.declared.Listener.{Listener}
 use Rattle.listener.specs.declared.sets.Hand.{Hand}
 use Rattle.listener.proofs.Gathering.{Gathered, gathered-none, gathered-as, gathered-held, gathered-more, gathered-whole, gathered-table, set-same, set-other, set-first}
-use Rattle.listener.proofs.Hearing.{hear-refused, hear-accepted, heard-last, heard-copy, heard-part, heard-taken, fresh-picture, fresh-last, fresh-hand, taken-picture, taken-last, taken-marks, taken-hand}
+use Rattle.listener.proofs.Hearing.{hear-refused, hear-as, heard-last, heard-copy, heard-part, heard-taken, fresh-picture, fresh-last, fresh-hand, taken-picture, taken-last, taken-marks, taken-hand}
 use Rattle.claims.specs.Calls.{stepsMade, tableIn}
 use Rattle.claims.specs.Hearings.{Item, sent, spoilt, wasHeard, isWhole, wholes, firstOr, NoneAfter, newestOr, farthest, Near}
 use Rattle.claims.specs.Demand3.{Binding, message, listenerAfter, Sent, Premises, nothing, next, late, damaged, pictureOf, lastOf, distance, PutRight, expected, Answered}
@@ -302,7 +303,7 @@ module _ (rest limit : ℕ) {Message : Type 0} (binding : Binding Message) (call
   module _ (twenty : (n : ℕ) → length (T n) ≡ slots) (apart : (n : ℕ) → clashes (T n) ≡ false)
       (back : (n p : ℕ) → Sent rest limit binding calls n p → binding .read (message rest limit binding calls (sent n p)) ≡ record { verdict = Accepted; telegram = packetOf n p }) where
     heard-as : (l : Listener) (n p : ℕ) → Sent rest limit binding calls n p → hearOf limit l (binding .read (message rest limit binding calls (sent n p))) ≡ heardOf limit l (packetOf n p)
-    heard-as l n p s = ap (hearOf limit l) (back n p s) ∙ hear-accepted limit l (packetOf n p)
+    heard-as l n p s = ap (hearOf limit l) (back n p s) ∙ hear-as limit l (record { verdict = Accepted; telegram = packetOf n p }) refl
 
     follow-late : (l : Listener) (n p : ℕ) (r : List (Item Message)) (before : List ℕ) → Sent rest limit binding calls n p → wholes r ≡ n ∷ before → Rel r l
         → Follows (sent n p) r (heardOf limit l (packetOf n p))

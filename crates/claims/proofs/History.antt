@@ -11,12 +11,12 @@ use native.Mathlib.Omega.{arith}
 use native.Mathlib.Nat.{add-zero}
 use borrow.Author.Tests.{eqb-true, eqb-false, ne-eqb, ltb-true, ltb-false, lt-ltb, le-ltb}
 use Rattle.kit.proofs.Cases.{on, given}
-use Rattle.condition.specs.Slots.{isOccupied, kindOf}
+use Rattle.condition.specs.Slots.{isOccupied, kindOf, slots}
 use Rattle.condition.specs.Steps.{steps}
 use Rattle.condition.specs.Verdicts.{numberOf}
 use Rattle.condition.specs.declared.verdicts.Verdict.the-variants.{Accepted as Passed}
 use Rattle.condition.proofs.Coding.{held-occupied}
-use Rattle.telegram.specs.Tables.{slots, tableSlot}
+use Rattle.telegram.specs.Tables.{tableSlot}
 use Rattle.orders.specs.Orders.{listRefusal, placeAt}
 use Rattle.desk.specs.Desks.{acceptOf}
 use Rattle.desk.specs.Runs.{run, Accepted, Stood, InNewest}

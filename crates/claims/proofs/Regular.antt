@@ -7,15 +7,14 @@ use mathlib.Core.List.{List, [], _∷_}
 use lib.Dec.{eqb}
 use native.Mathlib.Omega.{arith}
 use Rattle.kit.specs.Loops.{count, fold}
-use Rattle.kit.proofs.Loops.{count-same}
 use Rattle.telegram.specs.Tables.{packets, firstPacket}
 use Rattle.telegram.specs.declared.Telegram.{Telegram}
 use Rattle.desk.specs.Desks.{telegramOf}
 use Rattle.claims.specs.Calls.{stepsMade, deskOf}
-use Rattle.claims.specs.Hearings.{Item, sent, spoilt, wasHeard, isWhole, wholes, firstOr, NoneAfter, newestOr, farthest}
+use Rattle.claims.specs.Hearings.{Item, sent, spoilt, wasHeard, wholes, firstOr, NoneAfter, newestOr, farthest}
 use Rattle.claims.specs.Demand3.{Binding, Premises, nothing, next}
 use Rattle.claims.specs.Regular.{fiveOf, wholly, Spaced}
-use Rattle.claims.proofs.Sequences.{heard-here, heard-above, wholes-part, wholes-new}
+use Rattle.claims.proofs.Sequences.{heard-here, heard-above, whole-known, wholes-part, wholes-new}
 
 -- one packet more
 abbrev also : ℕ → (ℕ → Bool) → ℕ → Bool
@@ -29,11 +28,6 @@ none-after : {Message : Type 0} (n m : ℕ) (r : List (Item Message)) → NoneAf
 none-after n m [] b h = tt
 none-after n m (sent k p ∷ r) (a, b) h = (omega arith, none-after n m r b h)
 none-after n m (spoilt message ∷ r) b h = none-after n m r b h
-
-whole-is : {Message : Type 0} (r : List (Item Message)) (n : ℕ) (packet : ℕ → Bool) → ((q : ℕ) → wasHeard r n q ≡ packet q) → isWhole r n ≡ five packet
-unfolding isWhole
-whole-is r n packet known =
-    ap (λ c. eqb c packets) (count-same (λ k. wasHeard r n (firstPacket + k)) (λ k. packet (firstPacket + k)) packets (λ k small. known (firstPacket + k)))
 
 module _ (rest limit : ℕ) {Message : Type 0} (binding : Binding Message) (calls : List (List ℕ)) (all : (t : Telegram) → binding .Carries t) where
   -- some packets of step n, heard after other tables
@@ -57,7 +51,7 @@ module _ (rest limit : ℕ) {Message : Type 0} (binding : Binding Message) (call
         record {
           premises = heard-next;
           after = (omega arith, part .after);
-          same = wholes-part n p r (whole-is (sent n p ∷ r) n (also p packet) known-next ∙ few) ∙ part .same;
+          same = wholes-part n p r (whole-known (sent n p ∷ r) n (also p packet) known-next ∙ few) ∙ part .same;
           bound = part .bound;
           known = known-next;
         }
@@ -68,7 +62,7 @@ module _ (rest limit : ℕ) {Message : Type 0} (binding : Binding Message) (call
     part-last few full = (
       heard-next,
       (omega arith, part .after),
-      wholes-new n p r (whole-is (sent n p ∷ r) n (also p packet) known-next ∙ full) (whole-is r n packet (part .known) ∙ few) ∙ ap (λ w. n ∷ w) (part .same),
+      wholes-new n p r (whole-known (sent n p ∷ r) n (also p packet) known-next ∙ full) (whole-known r n packet (part .known) ∙ few) ∙ ap (λ w. n ∷ w) (part .same),
     )
 
   -- a whole table more

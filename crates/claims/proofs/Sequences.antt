@@ -1,11 +1,12 @@
 -- Facts of heard sequences: what a telegram more changes, and that the tables heard whole stand newest first.
 use Prim.Native.Nat.{ℕ, _+_, _-_, _<_, _≤_}
 use mathlib.Core.Path.{_≡_, refl, sym, ap, _∙_, subst}
-use mathlib.Core.Bool.{true, false, not, _&&_, _||_}
+use mathlib.Core.Bool.{Bool, true, false, not, _&&_, _||_}
 use mathlib.Core.List.{List, [], _∷_}
 use lib.Dec.{eqb, ltb}
 use native.Mathlib.Omega.{arith}
 use borrow.Author.Tests.{eqb-true, eqb-false, eq-eqb, ne-eqb, ltb-true, ltb-false}
+use Rattle.kit.specs.Loops.{count}
 use Rattle.kit.proofs.Cases.{on, clash, and-both}
 use Rattle.kit.proofs.Loops.{count-all, all-counted, count-same}
 use Rattle.telegram.specs.Tables.{packets, firstPacket}
@@ -52,10 +53,16 @@ module _ {Message : Type 0} where
   unfolding isWhole
   heard-whole r n each = eq-eqb _ _ (count-all (λ k. wasHeard r n (firstPacket + k)) packets each)
 
+  -- by the packets of a step that were heard, where these are known
+  pub whole-known : (r : List (Item Message)) (n : ℕ) (packet : ℕ → Bool) → ((q : ℕ) → wasHeard r n q ≡ packet q)
+      → isWhole r n ≡ eqb (count (λ k. packet (firstPacket + k)) packets) packets
+  unfolding isWhole
+  whole-known r n packet known =
+      ap (λ c. eqb c packets) (count-same (λ k. wasHeard r n (firstPacket + k)) (λ k. packet (firstPacket + k)) packets (λ k small. known (firstPacket + k)))
+
   pub whole-same : (r s : List (Item Message)) (n : ℕ) → ((q : ℕ) → wasHeard r n q ≡ wasHeard s n q) → isWhole r n ≡ isWhole s n
   unfolding isWhole
-  whole-same r s n same =
-      ap (λ c. eqb c packets) (count-same (λ k. wasHeard r n (firstPacket + k)) (λ k. wasHeard s n (firstPacket + k)) packets (λ k p. same (firstPacket + k)))
+  whole-same r s n same = whole-known r n (wasHeard s n) same
 
   pub whole-more : (item : Item Message) (r : List (Item Message)) (n : ℕ) → isWhole r n ≡ true → isWhole (item ∷ r) n ≡ true
   whole-more item r n w = heard-whole (item ∷ r) n (λ k p. heard-more item r n (firstPacket + k) (whole-heard r n w k p))

@@ -16,6 +16,10 @@ use Rattle.condition.specs.declared.slots.Coded.{Coded}
 use Rattle.condition.specs.declared.slots.Slot.{Slot}
 use Rattle.condition.specs.declared.slots.SlotReading.{SlotReading}
 
+-- W-01: a table has twenty slots, 0 to 19
+abbrev pub slots : ℕ
+slots = 20
+
 -- T-05: the empty slot
 abbrev pub emptySlot : Slot
 emptySlot = record { number = 0; body = Empty }

@@ -12,6 +12,7 @@ pub use distances::NO_VALUE;
 pub use distances::distance_of;
 pub use slots::Body;
 pub use slots::Coded;
+pub use slots::SLOTS;
 pub use slots::Slot;
 pub use slots::SlotReading;
 pub use slots::body_of;

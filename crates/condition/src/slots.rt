@@ -10,6 +10,9 @@ use crate::words::is_kind;
 use crate::words::second_allowed;
 use crate::words::second_held;
 
+// How many slots a table has.
+pub const SLOTS: usize = 20;
+
 // What a slot holds. That it is empty is this enum's word, and not that its number is 0.
 pub enum Body {
     Empty,

@@ -10,7 +10,8 @@ use lib.Dec.{eqb}
 use borrow.Author.Tests.{eqb-false, ne-eqb}
 use Rattle.kit.proofs.Cases.{on, given}
 use Rattle.kit.proofs.Maps.{map-at}
-use Rattle.orders.specs.Orders.{orderNamed, orderCount, listedAt, freePlace, placeAt, slots}
+use Rattle.orders.specs.Orders.{orderNamed, orderCount, listedAt, freePlace, placeAt}
+use Rattle.condition.specs.Slots.{slots}
 use Rattle.orders.specs.declared.Place.{Place}
 use Rattle.orders.proofs.Lists.{Fair, listed-there}
 use Rattle.numbers.specs.Numbers.{noneEnded, endedAt}

@@ -7,7 +7,7 @@ use mathlib.Core.Bool.{true}
 use mathlib.Core.List.{List, [], _∷_}
 use native.Mathlib.Omega.{arith}
 use Rattle.kit.proofs.Cases.{on, given}
-use Rattle.orders.specs.Orders.{slots}
+use Rattle.condition.specs.Slots.{slots}
 use Rattle.orders.proofs.Lists.{fair}
 use Rattle.numbers.specs.Numbers.{endedAt, isResting}
 use Rattle.numbers.specs.declared.Ended.{Ended}

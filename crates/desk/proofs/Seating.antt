@@ -18,11 +18,11 @@ use Rattle.kit.proofs.Cases.{on, given}
 use Rattle.kit.proofs.Loops.{fold-none, fold-more}
 use Rattle.kit.proofs.Member.{too-many}
 use Rattle.kit.specs.Ladder.{Silent}
-use Rattle.condition.specs.Slots.{slotRows, codedOf, Held}
+use Rattle.condition.specs.Slots.{slotRows, codedOf, Held, slots}
 use Rattle.condition.specs.declared.slots.Coded.{Coded}
 use Rattle.condition.specs.declared.slots.Slot.{Slot}
 use Rattle.condition.proofs.Coding.{filled-silent, read-held, coded-back}
-use Rattle.orders.specs.Orders.{stands, orderAt, orderCount, listedAt, freePlace, placeAt, placeOf, isLive, slots}
+use Rattle.orders.specs.Orders.{stands, orderAt, orderCount, listedAt, freePlace, placeAt, placeOf, isLive}
 use Rattle.orders.specs.declared.Order.{Order}
 use Rattle.orders.specs.declared.Place.{Place}
 use Rattle.orders.proofs.Lists.{Fair, listed-there, listed-when, live-there, live-none, live-when}

@@ -13,7 +13,8 @@ use borrow.Author.Tests.{ltb-true, ltb-false}
 use Rattle.kit.proofs.Cases.{on, clash, given}
 use Rattle.condition.specs.Steps.{steps, gapOf}
 use Rattle.condition.proofs.Round.{gap-round, gap-only}
-use Rattle.orders.specs.Orders.{orderNamed, stands, orderAt, orderCount, listedAt, freePlace, placeAt, placeOf, isLive, slots}
+use Rattle.orders.specs.Orders.{orderNamed, stands, orderAt, orderCount, listedAt, freePlace, placeAt, placeOf, isLive}
+use Rattle.condition.specs.Slots.{slots}
 use Rattle.orders.specs.declared.Place.{Place}
 use Rattle.orders.proofs.Lists.{listed-self, Fair, listed-there, listed-when, live-there}
 use Rattle.numbers.specs.Numbers.{noneEnded, endedAt, isResting}

@@ -4,7 +4,7 @@ use mathlib.Core.Path.{_≡_, refl, sym, ap, _∙_, subst}
 use mathlib.Core.List.{List}
 use lib.ListN.{length, getD, length-map, List·getD-map}
 use native.Mathlib.Omega.{arith}
-use Rattle.condition.specs.Slots.{emptySlot, Held}
+use Rattle.condition.specs.Slots.{emptySlot, Held, slots}
 use Rattle.condition.specs.declared.slots.Slot.{Slot}
 use Rattle.condition.specs.declared.verdicts.Verdict.the-variants.{Accepted}
 use Rattle.telegram.specs.Sendable.{Sendable}
@@ -13,7 +13,7 @@ use Rattle.telegram.specs.Telegrams.{readOf, bytesOf, written}
 use Rattle.telegram.proofs.Refusals.{packet-fills}
 use Rattle.telegram.proofs.Carried.{table-sendable, slot-carried}
 use Rattle.telegram.proofs.ReadAgain.{read-again}
-use Rattle.orders.specs.Orders.{freePlace, placeAt, slots}
+use Rattle.orders.specs.Orders.{freePlace, placeAt}
 use Rattle.orders.specs.declared.Place.{Place}
 use Rattle.desk.specs.Desks.{tableOf, telegramOf}
 use Rattle.desk.specs.declared.Desk.{Desk}

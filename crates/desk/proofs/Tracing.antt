@@ -7,14 +7,13 @@ use mathlib.Core.Path.{_≡_, refl, sym, ap, _∙_, subst}
 use mathlib.Core.Logic.{_⊎_, inl, inr}
 use mathlib.Core.Bool.{Bool, true, false}
 use mathlib.Core.List.{List, [], _∷_, _++_}
-use lib.Dec.{ltb}
-use lib.ListN.{length, replicate, length-replicate, getD-replicate, List·getD-eq-default}
+use lib.ListN.{length, length-replicate}
 use native.Mathlib.Omega.{arith}
-use borrow.Author.Tests.{ltb-true, ltb-false}
 use Rattle.kit.proofs.Cases.{on, clash, given}
-use Rattle.condition.specs.Slots.{codedOf}
+use Rattle.kit.proofs.Maps.{replicate-at}
+use Rattle.condition.specs.Slots.{codedOf, slots}
 use Rattle.condition.specs.Steps.{steps}
-use Rattle.orders.specs.Orders.{stands, freePlace, placeAt, placeOf, slots}
+use Rattle.orders.specs.Orders.{stands, freePlace, placeAt, placeOf}
 use Rattle.orders.specs.declared.Place.{Place}
 use Rattle.orders.proofs.Lists.{Fair, fair, live-there, live-when}
 use Rattle.numbers.specs.Numbers.{noneEnded, endedAt}
@@ -105,17 +104,11 @@ module _ (rest rows : ℕ) (enough : rest ≤ rows) (few : rows ≤ 11) (desk : 
 module _ (rows : ℕ) where
   pub fresh-at : (i : ℕ) → at (freshWith rows) i ≡ freePlace
   unfolding freshWith
-  fresh-at i =
-      on (ltb i slots)
-      (λ e. getD-replicate slots i freePlace freePlace (ltb-true i slots e))
-      (λ e. List·getD-eq-default (replicate slots freePlace) freePlace {n = i} (omega (arith, ltb-false i slots e)))
+  fresh-at i = replicate-at slots i freePlace
 
   pub fresh-ended : (r : ℕ) → endedAt (freshWith rows .ended) r ≡ noneEnded
   unfolding freshWith
-  fresh-ended r =
-      on (ltb r (slots * rows))
-      (λ e. getD-replicate (slots * rows) r noneEnded noneEnded (ltb-true r (slots * rows) e))
-      (λ e. List·getD-eq-default (replicate (slots * rows) noneEnded) noneEnded {n = r} (omega (arith, ltb-false r (slots * rows) e, length-replicate (slots * rows) noneEnded)))
+  fresh-ended r = replicate-at (slots * rows) r noneEnded
 
   fresh-long : (length (freshWith rows .places) ≡ slots) × (length (freshWith rows .ended) ≡ slots * rows) × (freshWith rows .step < steps)
   unfolding freshWith

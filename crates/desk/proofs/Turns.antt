@@ -13,7 +13,8 @@ use borrow.Author.Tests.{eqb-true, eqb-false, lt-ltb}
 use Rattle.kit.specs.Loops.{fold}
 use Rattle.kit.proofs.Cases.{on, clash, given}
 use Rattle.kit.proofs.Loops.{fold-none, fold-more}
-use Rattle.orders.specs.Orders.{stands, orderAt, orderCount, freePlace, placeAt, placeOf, isLive, slots}
+use Rattle.orders.specs.Orders.{stands, orderAt, orderCount, freePlace, placeAt, placeOf, isLive}
+use Rattle.condition.specs.Slots.{slots}
 use Rattle.orders.specs.declared.Place.{Place}
 use Rattle.orders.proofs.Lists.{Fair, fair, listed-when, live-there, live-when}
 use Rattle.numbers.specs.Numbers.{isResting, hasNumber, isPermitted, nextNumber, numberAfter}

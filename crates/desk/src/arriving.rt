@@ -25,7 +25,7 @@ fn seat(seats: Seats, ended: [Ended; 160], step: u16, order: Order) -> Seats
     ensures { λ r. ⌜ r ≡ seated (isResting rest step ended) order seats ⌝ }
 {
     let mut places = seats.places;
-    if orders::place_of(places, order.number) < orders::PLACES {
+    if orders::place_of(places, order.number) < Desk::SLOTS {
         return seats;
     }
     let number = numbers::next_number(places, ended, seats.last, Desk::REST, step);

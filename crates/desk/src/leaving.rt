@@ -5,10 +5,10 @@ ghost use Prim.Native.Nat.{_<_, _≤_};
 ghost use lib.ListN.{length};
 ghost use Rattle.numbers.specs.Numbers.{endedAt};
 ghost use Rattle.desk.specs.Steps.{keptPlace, endedEntry, endedNumbers};
+use condition::SLOTS;
 use condition::Slot;
 use numbers::Ended;
 use numbers::KEPT;
-use orders::PLACES;
 use orders::Place;
 
 // What an order that stays takes from the list, or a free place.
@@ -38,7 +38,7 @@ pub fn kept_places(list: &[u8], places: [Place; 20]) -> [Place; 20]
 {
     let mut kept = places;
     let mut i: usize = 0;
-    while i < PLACES {
+    while i < SLOTS {
         kept[i] = kept_place(list, places[i]);
         i += 1;
     }
@@ -68,10 +68,10 @@ fn ended_at(list: &[u8], step: u16, places: [Place; 20], ended: [Ended; 160], i:
     requires { ⌜ (length (now list) ≤ 200) × (i < 160) ⌝ }
     ensures { λ r. ⌜ r ≡ endedAt (endedNumbers (now (list .entry)) step places ended) i ⌝ }
 {
-    if i < PLACES {
+    if i < SLOTS {
         return ended_entry(list, step, places[i]);
     }
-    ended[i - PLACES]
+    ended[i - SLOTS]
 }
 
 // The ended numbers after the step.

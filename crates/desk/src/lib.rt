@@ -31,7 +31,7 @@ pub struct Answer {
 
 impl Desk {
     // How many slots the table has.
-    pub const SLOTS: usize = orders::PLACES;
+    pub const SLOTS: usize = condition::SLOTS;
 
     // For how many steps an ended number is not given, the one in which it ended among them.
     pub const REST: u16 = 8;

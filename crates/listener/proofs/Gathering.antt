@@ -14,9 +14,9 @@ use Rattle.kit.specs.Loops.{count}
 use Rattle.kit.proofs.Cases.{on, clash}
 use Rattle.kit.proofs.Loops.{count-same, all-counted}
 use Rattle.kit.proofs.Stores.{sets-in, sets-out}
-use Rattle.condition.specs.Slots.{emptySlot}
+use Rattle.condition.specs.Slots.{emptySlot, slots}
 use Rattle.condition.specs.declared.slots.Slot.{Slot}
-use Rattle.telegram.specs.Tables.{slots, tableSlot, packets, firstPacket, firstSlot, fourOf}
+use Rattle.telegram.specs.Tables.{tableSlot, packets, firstPacket, firstSlot, fourOf}
 use Rattle.telegram.proofs.Carried.{four-at, four-long}
 use Rattle.listener.specs.Sets.{begun, setFor, isHeld, joined, isWhole}
 use Rattle.listener.specs.declared.sets.Hand.{Hand}

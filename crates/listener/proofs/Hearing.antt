@@ -4,14 +4,10 @@ use Prim.Native.Nat.{ℕ}
 use mathlib.Core.Logic.{inl, inr}
 use mathlib.Core.Path.{_≡_, refl, ap}
 use mathlib.Core.Bool.{true, false, not}
-use lib.Dec.{ltb}
-use lib.ListN.{replicate, getD-replicate, List·getD-eq-default}
-use native.Mathlib.Omega.{arith}
-use borrow.Author.Tests.{ltb-true, ltb-false}
+use lib.ListN.{replicate}
 use Rattle.kit.proofs.Ladder.{ladder-decides, ladder-silent}
-use Rattle.kit.proofs.Cases.{on}
-use Rattle.telegram.specs.Tables.{slots}
-use Rattle.condition.specs.Slots.{emptySlot}
+use Rattle.kit.proofs.Maps.{replicate-at}
+use Rattle.condition.specs.Slots.{slots, emptySlot}
 use Rattle.condition.specs.declared.verdicts.Verdict.the-variants.{Accepted, Refused}
 use Rattle.telegram.specs.declared.Reading.{Reading}
 use Rattle.telegram.specs.declared.Telegram.{Telegram}
@@ -33,10 +29,6 @@ module _ (limit : ℕ) (listener : Listener) where
   pub hear-as : (reading : Reading) → reading .verdict ≡ Accepted → hearOf limit listener reading ≡ heardOf limit listener (reading .telegram)
   unfolding hearOf
   hear-as reading e = ap (λ v. afterReading v limit listener (reading .telegram)) e
-
-  pub hear-accepted : (t : Telegram) → hearOf limit listener (record { verdict = Accepted; telegram = t }) ≡ heardOf limit listener t
-  unfolding hearOf
-  hear-accepted t = refl
 
   module _ (t : Telegram) where
     abbrev set : Hand
@@ -89,10 +81,7 @@ fresh-hand = refl
 
 pub fresh-unmarked : (i : ℕ) → markAt (freshListener .marks) i ≡ false
 unfolding freshListener
-fresh-unmarked i =
-    on (ltb i slots)
-    (λ e. getD-replicate slots i false false (ltb-true i slots e))
-    (λ e. List·getD-eq-default (replicate slots false) false {n = i} (omega (arith, ltb-false i slots e)))
+fresh-unmarked i = replicate-at slots i false
 
 -- L-04 to L-07: a listener that has taken a set
 module _ (limit : ℕ) (listener : Listener) (set : Hand) where

@@ -2,18 +2,17 @@
 use Prim.Native.Nat.{ℕ}
 use mathlib.Core.Path.{refl, sym, subst}
 use mathlib.Core.List.{List, [], _∷_}
-use lib.Dec.{eqb, ltb}
-use lib.ListN.{replicate, getD-replicate, List·getD-eq-default}
-use native.Mathlib.Omega.{arith}
-use borrow.Author.Tests.{ltb-true, ltb-false}
+use lib.Dec.{eqb}
+use lib.ListN.{replicate}
 use Rattle.kit.proofs.Cases.{on}
+use Rattle.kit.proofs.Maps.{replicate-at}
 use Rattle.kit.proofs.Stores.{sets-each}
-use Rattle.condition.specs.Slots.{emptySlot, Held}
+use Rattle.condition.specs.Slots.{emptySlot, Held, slots}
 use Rattle.condition.specs.declared.slots.Slot.{Slot}
 use Rattle.condition.specs.declared.verdicts.Verdict.{Verdict}
 use Rattle.condition.specs.declared.verdicts.Verdict.the-variants.{Accepted, Refused}
 use Rattle.telegram.specs.Sendable.{slotOn}
-use Rattle.telegram.specs.Tables.{slots, tableSlot, firstSlot}
+use Rattle.telegram.specs.Tables.{tableSlot, firstSlot}
 use Rattle.telegram.specs.Telegrams.{readOf}
 use Rattle.telegram.specs.declared.Telegram.{Telegram}
 use Rattle.telegram.proofs.Valid.{never-invalid}
@@ -28,10 +27,7 @@ abbrev AllHeld : List Slot → Type 0
 AllHeld table = (i : ℕ) → Held (tableSlot table i)
 
 none-held : AllHeld (replicate slots emptySlot)
-none-held i =
-    on (ltb i slots)
-    (λ e. subst Held (sym (getD-replicate slots i emptySlot emptySlot (ltb-true i slots e))) refl)
-    (λ e. subst Held (sym (List·getD-eq-default (replicate slots emptySlot) emptySlot {n = i} (omega (arith, ltb-false i slots e)))) refl)
+none-held i = subst Held (sym (replicate-at slots i emptySlot)) refl
 
 begun-held : (step : ℕ) → AllHeld (begun step .slots)
 unfolding begun

@@ -5,8 +5,8 @@ use lib.Dec.{eqb}
 use lib.ListN.{getD, replicate, set}
 use lib.Seq.{sets}
 use Rattle.kit.specs.Loops.{count}
-use Rattle.condition.specs.Slots.{emptySlot}
-use Rattle.telegram.specs.Tables.{slots, packets, firstPacket, firstSlot}
+use Rattle.condition.specs.Slots.{emptySlot, slots}
+use Rattle.telegram.specs.Tables.{packets, firstPacket, firstSlot}
 use Rattle.telegram.specs.declared.Telegram.{Telegram}
 use Rattle.listener.specs.declared.sets.Hand.{Hand}
 

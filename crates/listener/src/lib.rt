@@ -2,10 +2,10 @@
 // entry that was carried on from the picture before. Packets of a table that is not yet whole are the set in hand (sets).
 mod sets;
 
+use condition::SLOTS;
 use condition::Slot;
 use condition::Verdict;
 pub use sets::Hand;
-use telegram::SLOTS;
 use telegram::Telegram;
 ghost use mathlib.Core.Path.{_≡_};
 ghost use Prim.Native.Nat.{_≤_};

@@ -9,7 +9,8 @@ use lib.Dec.{eqb, ltb}
 use lib.ListN.{length, getD}
 use Rattle.kit.specs.Loops.{scan, any}
 use Rattle.condition.specs.Steps.{gapOf}
-use Rattle.orders.specs.Orders.{placeAt, slots}
+use Rattle.orders.specs.Orders.{placeAt}
+use Rattle.condition.specs.Slots.{slots}
 use Rattle.orders.specs.declared.Place.{Place}
 use Rattle.numbers.specs.declared.Ended.{Ended}
 

@@ -1,6 +1,6 @@
 // Which number a new order is given: the first permitted one after the last one given. A number is permitted if no live order has
 // it and it does not rest. How many steps a number rests is a figure that the desk hands in.
-use orders::PLACES;
+use condition::SLOTS;
 use orders::Place;
 ghost use mathlib.Core.Path.{_≡_};
 ghost use Prim.Native.Nat.{_<_};
@@ -55,7 +55,7 @@ fn has_number(places: [Place; 20], number: u8) -> bool
     ensures { λ r. ⌜ r ≡ hasNumber places number ⌝ }
 {
     let mut i: usize = 0;
-    while i < PLACES {
+    while i < SLOTS {
         if places[i].slot.number == number {
             return true;
         }

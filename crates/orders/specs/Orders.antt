@@ -1,4 +1,5 @@
 -- The list of orders: document 01, "The list and the step", its first sentence, and rows 1 to 8.
+use Rattle.condition.specs.Slots.{slots, emptySlot, codedOf}
 use Prim.Native.Nat.{ℕ, _+_, _*_, _/_, _%_}
 use mathlib.Core.Bool.{Bool, not, _&&_}
 use mathlib.Core.List.{List, [], _∷_}
@@ -8,7 +9,6 @@ use Rattle.kit.specs.Bytes.{word}
 use Rattle.kit.specs.Each.{each}
 use Rattle.kit.specs.Ladder.{ladder}
 use Rattle.kit.specs.Loops.{find}
-use Rattle.condition.specs.Slots.{emptySlot, codedOf}
 use Rattle.condition.specs.Words.{isType, secondAllowed}
 use Rattle.orders.specs.declared.Order.{Order}
 use Rattle.orders.specs.declared.Place.{Place}
@@ -51,10 +51,6 @@ abbrev pub orderNamed : List ℕ → ℕ → Order
 orderNamed list number = orderAt list (listedAt list (orderCount list) number)
 
 -- ---- the places of the desk
-
--- W-01: the desk keeps twenty slots
-abbrev pub slots : ℕ
-slots = 20
 
 -- D-04: a place that no order has
 abbrev pub freePlace : Place

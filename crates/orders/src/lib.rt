@@ -1,5 +1,6 @@
 // The list of orders that a desk is given, and when it is refused: rows 1 to 8 of document 01. A list is any bytes of any length;
 // a live order is one that has a place on the desk.
+use condition::SLOTS;
 use condition::Slot;
 ghost use mathlib.Core.Path.{_≡_};
 ghost use Prim.Native.Nat.{_<_};
@@ -7,9 +8,6 @@ ghost use lib.ListN.{getD};
 ghost use Rattle.kit.specs.Each.{each};
 ghost use Rattle.kit.specs.Ladder.{ladder};
 ghost use Rattle.orders.specs.Orders.{freePlace, wordIn, orderAt, listedAt, placeOf, isRetyped, orderRows, listRefusal};
-
-// How many places a desk has.
-pub const PLACES: usize = 20;
 
 // How many bytes an order has, and the most that a list may have.
 pub const LENGTH: usize = 10;
@@ -92,13 +90,13 @@ pub fn place_of(places: [Place; 20], order: u32) -> usize
     ensures { λ r. ⌜ r ≡ placeOf places order ⌝ }
 {
     let mut i: usize = 0;
-    while i < PLACES {
+    while i < SLOTS {
         if places[i].order == order {
             return i;
         }
         i += 1;
     }
-    PLACES
+    SLOTS
 }
 
 // Whether an order is live with another type.
@@ -106,7 +104,7 @@ fn is_retyped(places: [Place; 20], order: Order) -> bool
     ensures { λ r. ⌜ r ≡ isRetyped places order ⌝ }
 {
     let at = place_of(places, order.number);
-    if at < PLACES {
+    if at < SLOTS {
         let place = places[at];
         let coded = condition::coded_of(place.slot);
         return coded.kind != order.kind;

@@ -10,9 +10,9 @@ use native.Mathlib.Omega.{arith}
 use borrow.Author.Tests.{eqb-true, eq-eqb, leb-true, le-leb}
 use Rattle.kit.proofs.Cases.{on, given, and-both}
 use Rattle.kit.proofs.Loops.{scan-none, any-some, any-when}
-use Rattle.condition.specs.Slots.{emptySlot, isOccupied, kindOf}
+use Rattle.condition.specs.Slots.{emptySlot, isOccupied, kindOf, slots}
 use Rattle.condition.specs.declared.slots.Slot.{Slot}
-use Rattle.telegram.specs.Tables.{slots, tableSlot}
+use Rattle.telegram.specs.Tables.{tableSlot}
 use Rattle.picture.specs.Pictures.{hasNumber, isTwice, clashes, isSame, isKnown, isCarried, marksOf}
 
 -- no two occupied slots have the same number

@@ -5,15 +5,15 @@ use mathlib.Core.Bool.{Bool, _&&_}
 use mathlib.Core.List.{List, map}
 use lib.Dec.{eqb, leb}
 use Rattle.kit.specs.Loops.{any, count}
-use Rattle.condition.specs.Slots.{isOccupied, kindOf}
+use Rattle.condition.specs.Slots.{isOccupied, kindOf, slots}
 use Rattle.condition.specs.declared.slots.Slot.{Slot}
-use Rattle.telegram.specs.Tables.{slots, tableSlot}
+use Rattle.telegram.specs.Tables.{tableSlot}
 
 -- G-03: the conditions of a table: its occupied slots
 unfoldable pub countOf : List Slot → ℕ
 countOf table = count (λ i. isOccupied (tableSlot table i)) slots
 
--- L-06: an occupied slot with this number
+-- A-19: an occupied slot with this number
 unfoldable pub hasNumber : ℕ → Slot → Bool
 hasNumber number slot = isOccupied slot && eqb (slot .number) number
 

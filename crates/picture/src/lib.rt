@@ -1,7 +1,7 @@
 // What is judged of a whole table on the vehicle's side: how many conditions it has, whether a number stands in it twice, and which
 // of its entries are carried on from the picture before it.
+use condition::SLOTS;
 use condition::Slot;
-use telegram::SLOTS;
 ghost use Prim.Native.Nat.{_+_, _<_, _≤_};
 ghost use mathlib.Core.Bool.{cond};
 ghost use mathlib.Core.Path.{_≡_};

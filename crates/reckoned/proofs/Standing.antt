@@ -51,29 +51,24 @@ stood step =
 abbrev pub fived : ℕ → Desk
 fived step = record { places = entry 1 ∷ entry 2 ∷ entry 3 ∷ entry 4 ∷ entry 5 ∷ replicate 15 freePlace; ended = replicate 160 noneEnded; last = 5; step = step }
 
-first-call : acceptOf rest (freshWith rest) (order 1) ≡ record { verdict = Accepted; desk = stood 1 }
+-- what the checker computes: the first call of a standing list, each later one, and the list of five
+computed : (acceptOf rest (freshWith rest) (order 1) ≡ record { verdict = Accepted; desk = stood 1 })
+    × ((step : ℕ) → acceptOf rest (stood step) (order 1) ≡ record { verdict = Accepted; desk = stood ((step + 1) % steps) })
+    × ((step : ℕ) → acceptOf rest (stood step) (orders 5 1) ≡ record { verdict = Accepted; desk = fived ((step + 1) % steps) })
 unfolding order orders acceptOf verdictOf codedOf freshWith each ladder scan fold bodyOf secondHeld isConsidered secondAllowed orderAt listedAt placeOf orderRows isRetyped listRows restsBy isResting hasNumber nextNumber gapOf keptPlace endedEntry endedNumbers seated seatedAll stepOf
-first-call = refl
-
-next-call : (step : ℕ) → acceptOf rest (stood step) (order 1) ≡ record { verdict = Accepted; desk = stood ((step + 1) % steps) }
-unfolding order orders acceptOf verdictOf codedOf freshWith each ladder scan fold bodyOf secondHeld isConsidered secondAllowed orderAt listedAt placeOf orderRows isRetyped listRows restsBy isResting hasNumber nextNumber gapOf keptPlace endedEntry endedNumbers seated seatedAll stepOf
-next-call step = refl
-
-five-call : (step : ℕ) → acceptOf rest (stood step) (orders 5 1) ≡ record { verdict = Accepted; desk = fived ((step + 1) % steps) }
-unfolding order orders acceptOf verdictOf codedOf freshWith each ladder scan fold bodyOf secondHeld isConsidered secondAllowed orderAt listedAt placeOf orderRows isRetyped listRows restsBy isResting hasNumber nextNumber gapOf keptPlace endedEntry endedNumbers seated seatedAll stepOf
-five-call step = refl
+computed = (refl, (λ step. refl), (λ step. refl))
 
 -- ---- the desk of each step
 
 standing-is : (k : ℕ) → (deskAfter rest (standing (suc k)) ≡ stood ((suc k) % steps)) × (accepted rest (standing (suc k)) ≡ standing (suc k))
 unfolding standing deskAfter accepted
-standing-is zero = accepted-more rest [] (order 1) (stood 1) first-call
+standing-is zero = accepted-more rest [] (order 1) (stood 1) (computed .0)
 standing-is (suc k) = go (standing-is k)
   where
     go : (deskAfter rest (standing (suc k)) ≡ stood ((suc k) % steps)) × (accepted rest (standing (suc k)) ≡ standing (suc k))
         → (deskAfter rest (standing (suc (suc k))) ≡ stood ((suc (suc k)) % steps)) × (accepted rest (standing (suc (suc k))) ≡ standing (suc (suc k)))
     go (desk, lists) =
-        let call = ap (λ d. acceptOf rest d (order 1)) desk ∙ next-call ((suc k) % steps) in
+        let call = ap (λ d. acceptOf rest d (order 1)) desk ∙ computed .1 ((suc k) % steps) in
         let next : (suc k % steps + 1) % steps ≡ suc (suc k) % steps = omega arith in
         let step = accepted-more rest (standing (suc k)) (order 1) (stood (((suc k) % steps + 1) % steps)) call in
         (step .0 ∙ ap stood next, step .1 ∙ ap (λ l. order 1 ∷ l) lists)
@@ -108,7 +103,7 @@ module _ (k : ℕ) where
   five-is : (deskAfter rest (then-five (suc k)) ≡ fived (suc (suc k) % steps)) × (accepted rest (then-five (suc k)) ≡ then-five (suc k))
   unfolding then-five
   five-is =
-      let call = ap (λ d. acceptOf rest d (orders 5 1)) (standing-is k .0) ∙ five-call ((suc k) % steps) in
+      let call = ap (λ d. acceptOf rest d (orders 5 1)) (standing-is k .0) ∙ computed .2 ((suc k) % steps) in
       let next : (suc k % steps + 1) % steps ≡ suc (suc k) % steps = omega arith in
       let step = accepted-more rest (standing (suc k)) (orders 5 1) (fived (((suc k) % steps + 1) % steps)) call in
       (step .0 ∙ ap fived next, step .1 ∙ ap (λ l. orders 5 1 ∷ l) (standing-is k .1))

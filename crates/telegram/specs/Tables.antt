@@ -5,10 +5,6 @@ use lib.ListN.{getD}
 use Rattle.condition.specs.Slots.{emptySlot}
 use Rattle.condition.specs.declared.slots.Slot.{Slot}
 
--- W-01: a table has twenty slots, 0 to 19
-abbrev pub slots : ℕ
-slots = 20
-
 -- W-01: slot i of a table; past its end, empty
 abbrev pub tableSlot : List Slot → ℕ → Slot
 tableSlot table i = getD table i emptySlot

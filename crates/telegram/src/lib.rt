@@ -1,6 +1,7 @@
 // What a telegram of 26 bytes means: a packet number, a step number and four slots; and which four of a table's twenty slots a
 // packet carries. specs/ has the layout and the refusals, proofs/ the theorems on them; the crates telegram_reader and
 // telegram_writer have the code.
+use condition::SLOTS;
 use condition::Slot;
 use condition::Verdict;
 ghost use mathlib.Core.Path.{_≡_};
@@ -12,9 +13,6 @@ pub const LENGTH: usize = 26;
 pub const FIRST_PACKET: u8 = 3;
 
 pub const LAST_PACKET: u8 = 7;
-
-// How many slots a table has.
-pub const SLOTS: usize = 20;
 
 pub struct Telegram {
     pub packet: u8,

@@ -15,7 +15,7 @@ gap-requires : tie.Need-gap-requires
 gap-requires c κs = search needs
 
 returns : tie.Need-returns
-returns c = search needs
+returns c = sym (ap (λ l. gapFrom l (c .before .before .args .step)) (c .enum-told .given .1))
 
 returns-2 : tie.Need-returns-2
 returns-2 c =

@@ -8,7 +8,8 @@ use borrow.Author.Needs.{needs}
 use borrow.Author.Tests.{eq-eqb, ne-eqb}
 use Rattle.kit.specs.Loops.{scan}
 use Rattle.kit.proofs.Loops.{scan-go, scan-hit, scan-end}
-use Rattle.orders.specs.Orders.{slots, placeAt, placeOf}
+use Rattle.orders.specs.Orders.{placeAt, placeOf}
+use Rattle.condition.specs.Slots.{slots}
 use Rattle.orders.specs.declared.Place.{Place}
 use Rattle.orders.proofs.place_of.Statement.{statement}
 use Rattle.orders.proofs.place_of.Tie as tie

@@ -4,7 +4,7 @@ use mathlib.Core.Path.{_≡_, sym, _∙_}
 use borrow.Author.Needs.{needs}
 use Rattle.kit.specs.Loops.{any}
 use Rattle.kit.proofs.Loops.{scan-go, scan-hit, scan-end}
-use Rattle.telegram.specs.Tables.{slots}
+use Rattle.condition.specs.Slots.{slots}
 use Rattle.picture.specs.Pictures.{isTwice, clashes}
 use Rattle.picture.proofs.clashes.Statement.{statement}
 use Rattle.picture.proofs.clashes.Tie as tie

@@ -7,9 +7,9 @@ use native.Mathlib.Omega.{arith}
 use borrow.Author.Needs.{needs}
 use Rattle.kit.specs.Loops.{count}
 use Rattle.kit.proofs.Loops.{count-turn, count-none, count-most}
-use Rattle.condition.specs.Slots.{isOccupied}
+use Rattle.condition.specs.Slots.{isOccupied, slots}
 use Rattle.condition.specs.declared.slots.Slot.{Slot}
-use Rattle.telegram.specs.Tables.{slots, tableSlot}
+use Rattle.telegram.specs.Tables.{tableSlot}
 use Rattle.picture.specs.Pictures.{countOf}
 use Rattle.picture.proofs.count_of.Statement.{statement}
 use Rattle.picture.proofs.count_of.Tie as tie

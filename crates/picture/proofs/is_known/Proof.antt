@@ -7,7 +7,8 @@ use borrow.Author.Needs.{needs}
 use Rattle.kit.specs.Loops.{any}
 use Rattle.kit.proofs.Loops.{scan-go, scan-hit, scan-end}
 use Rattle.condition.specs.declared.slots.Slot.{Slot}
-use Rattle.telegram.specs.Tables.{slots, tableSlot}
+use Rattle.telegram.specs.Tables.{tableSlot}
+use Rattle.condition.specs.Slots.{slots}
 use Rattle.picture.specs.Pictures.{isSame, isKnown}
 use Rattle.picture.proofs.is_known.Statement.{statement}
 use Rattle.picture.proofs.is_known.Tie as tie

@@ -1,32 +1,20 @@
 -- `marks_of`: the loop fills the array with each slot's mark.
-use Prim.Native.Nat.{ℕ, _-_, _<_, _≤_}
-use mathlib.Core.Bool.{Bool, false}
-use mathlib.Core.List.{List}
-use mathlib.Core.Path.{_≡_, sym, _∙_}
-use lib.ListN.{length, getD, length-map}
+use Prim.Native.Nat.{_-_, _<_, _≤_}
+use mathlib.Core.Bool.{false}
+use mathlib.Core.List.{map}
+use mathlib.Core.Path.{_≡_, sym}
+use lib.ListN.{length}
 use native.Mathlib.Omega.{arith}
 use borrow.Author.Needs.{needs}
 use Rattle.kit.specs.Fill.{Filled}
-use Rattle.kit.proofs.Fill.{filled-none, filled-more, filled-all}
-use Rattle.kit.proofs.Maps.{map-at}
-use Rattle.condition.specs.Slots.{emptySlot}
-use Rattle.condition.specs.declared.slots.Slot.{Slot}
-use Rattle.telegram.specs.Tables.{slots, tableSlot}
+use Rattle.kit.proofs.Fill.{mapped-none, mapped-more, mapped-all}
+use Rattle.condition.specs.Slots.{emptySlot, slots}
 use Rattle.picture.specs.Pictures.{isCarried, marksOf}
 use Rattle.picture.proofs.marks_of.Statement.{statement}
 use Rattle.picture.proofs.marks_of.Tie as tie
 
-module _ (limit gap : ℕ) (before table : List Slot) (twenty : length table ≡ slots) where
-  long : length (marksOf limit gap before table) ≡ slots
-  unfolding marksOf
-  long = length-map table (isCarried limit gap before) ∙ twenty
-
-  element : (i : ℕ) (mark : Bool) → i < slots → mark ≡ isCarried limit gap before (tableSlot table i) → mark ≡ getD (marksOf limit gap before table) i false
-  unfolding marksOf
-  element i mark p e = e ∙ sym (map-at (isCarried limit gap before) table i emptySlot false (omega (arith, twenty)))
-
 abbrev Inv-loop : tie.InvT-loop
-Inv-loop limit gap before table marks₀ i₀ marks i = (i ≤ slots) × Filled false (marksOf limit gap before table) i marks
+Inv-loop limit gap before table marks₀ i₀ marks i = (i ≤ slots) × Filled false (map (isCarried limit gap before) table) i marks
 
 abbrev μ-loop : tie.MeasureT-loop
 μ-loop limit gap before table marks₀ i₀ marks i = slots - i
@@ -37,7 +25,7 @@ twenty start = start .good .1 .1 .1 .0 .1 .0 .1
 loop-holds : tie.Need-loop-holds Inv-loop μ-loop
 loop-holds c =
     let a = c .args in
-    (search needs, filled-none (sym (long (a .limit) (a .gap) (a .before) (a .t4) (twenty c))))
+    (search needs, mapped-none (isCarried (a .limit) (a .gap) (a .before)) (a .t4) (sym (twenty c)))
 
 mul-is-carried : tie.Need-mul-is-carried Inv-loop μ-loop
 mul-is-carried c = search needs
@@ -62,19 +50,17 @@ loop-again c =
     let l = c .before .before .before .loop in
     let start = c .before .before .before .before in
     let a = start .args in
-    let p : l .i < slots = search needs in (
-      search needs,
-      filled-more (omega (arith, long (a .limit) (a .gap) (a .before) (a .t4) (twenty start))) (l .inv .1)
-          (element (a .limit) (a .gap) (a .before) (a .t4) (twenty start) (l .i) _ p (c .is-carried .ensures)),
-    )
+    let p : l .i < slots = search needs in
+    (search needs, mapped-more (isCarried (a .limit) (a .gap) (a .before)) (a .t4) emptySlot (omega (arith, twenty start)) (l .inv .1) (c .is-carried .ensures))
 
 returns : tie.Need-returns Inv-loop μ-loop
+unfolding marksOf
 returns c =
     let l = c .before .loop in
     let start = c .before .before in
     let a = start .args in
     let past : slots ≤ l .i = search needs in
-    filled-all (omega (arith, long (a .limit) (a .gap) (a .before) (a .t4) (twenty start))) (l .inv .1)
+    mapped-all (isCarried (a .limit) (a .gap) (a .before)) (a .t4) (omega (arith, twenty start)) (l .inv .1)
 
 pub marks-of-spec : {M : Type 1} → statement M
 marks-of-spec =

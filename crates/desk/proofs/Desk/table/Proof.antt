@@ -1,32 +1,25 @@
 -- `Desk::table`: the loop fills the array with the places' slots.
-use Prim.Native.Nat.{ℕ, _-_, _<_, _≤_}
-use mathlib.Core.List.{List, map}
-use mathlib.Core.Path.{_≡_, sym, _∙_}
-use lib.ListN.{length, getD, length-map}
+use Prim.Native.Nat.{_-_, _<_, _≤_}
+use mathlib.Core.List.{map}
+use mathlib.Core.Path.{_≡_, refl, sym, _∙_}
+use lib.ListN.{length, length-map}
 use native.Mathlib.Omega.{arith}
 use borrow.Author.Needs.{needs}
 use Rattle.kit.specs.Fill.{Filled}
-use Rattle.kit.proofs.Fill.{filled-none, filled-more, filled-all}
-use Rattle.kit.proofs.Maps.{map-at}
-use Rattle.condition.specs.Slots.{emptySlot}
+use Rattle.kit.proofs.Fill.{mapped-none, mapped-more, mapped-all}
+use Rattle.condition.specs.Slots.{emptySlot, slots}
 use Rattle.condition.specs.declared.slots.Slot.{Slot}
-use Rattle.orders.specs.Orders.{freePlace, slots}
+use Rattle.orders.specs.Orders.{freePlace}
 use Rattle.orders.specs.declared.Place.{Place}
 use Rattle.desk.specs.Desks.{tableOf}
 use Rattle.desk.proofs.Desk.table.Statement.{statement}
 use Rattle.desk.proofs.Desk.table.Tie as tie
 
-abbrev of : List Place → List Slot
-of places = map (λ (place : Place). place .slot) places
-
-long : (places : List Place) → length places ≡ slots → length (of places) ≡ slots
-long places twenty = length-map places (λ (place : Place). place .slot) ∙ twenty
-
-element : (places : List Place) (i : ℕ) → length places ≡ slots → i < slots → getD places i freePlace .slot ≡ getD (of places) i emptySlot
-element places i twenty p = sym (map-at (λ (place : Place). place .slot) places i freePlace emptySlot (omega (arith, twenty)))
+abbrev slot : Place → Slot
+slot place = place .slot
 
 abbrev Inv-loop : tie.InvT-loop
-Inv-loop places table₀ i₀ table i = (i ≤ slots) × Filled emptySlot (of places) i table
+Inv-loop places table₀ i₀ table i = (i ≤ slots) × Filled emptySlot (map slot places) i table
 
 abbrev μ-loop : tie.MeasureT-loop
 μ-loop places table₀ i₀ table i = slots - i
@@ -40,7 +33,7 @@ empty-requires c κs = search needs
 loop-holds : tie.Need-loop-holds Inv-loop μ-loop
 loop-holds c =
     let start = c .before .before in
-    (search needs, filled-none (sym (long (start .args .self .places) (twenty start))))
+    (search needs, mapped-none slot (start .args .self .places) (sym (twenty start)))
 
 mul-place : tie.Need-mul-place Inv-loop μ-loop
 mul-place c = search needs
@@ -66,7 +59,7 @@ loop-again c =
     let start = c .before .before .before .before .before .before in
     let places = start .args .self .places in
     let p : l .i < slots = search needs in
-    (search needs, filled-more (omega (arith, long places (twenty start))) (l .inv .1) (element places (l .i) (twenty start) p))
+    (search needs, mapped-more slot places freePlace (omega (arith, twenty start)) (l .inv .1) refl)
 
 returns : tie.Need-returns Inv-loop μ-loop
 unfolding tableOf
@@ -74,7 +67,7 @@ returns c =
     let l = c .before .loop in
     let start = c .before .before .before .before in
     let past : slots ≤ l .i = search needs in
-    filled-all (omega (arith, long (start .args .self .places) (twenty start))) (l .inv .1)
+    mapped-all slot (start .args .self .places) (omega (arith, twenty start)) (l .inv .1)
 
 pub table-spec : {M : Type 1} → statement M
 table-spec =

@@ -6,7 +6,7 @@ use native.Mathlib.Omega.{arith}
 use borrow.Author.Needs.{needs}
 use Rattle.kit.specs.Fill.{Filled}
 use Rattle.kit.proofs.Fill.{filled-none, filled-more, filled-all}
-use Rattle.orders.specs.Orders.{slots}
+use Rattle.condition.specs.Slots.{slots}
 use Rattle.numbers.specs.Numbers.{noneEnded}
 use Rattle.desk.specs.Steps.{endedNumbers}
 use Rattle.desk.proofs.Endings.{ended-long}

@@ -4,26 +4,22 @@ use mathlib.Core.List.{List}
 use mathlib.Core.Path.{_≡_, sym, ap, _∙_, subst}
 use borrow.Author.Needs.{needs}
 use Rattle.kit.specs.Bytes.{Bytes}
-use Rattle.condition.specs.declared.verdicts.Verdict.{Verdict}
 use Rattle.condition.specs.declared.verdicts.Verdict.the-variants.{Accepted}
 use Rattle.telegram.specs.Telegrams.{readOf}
 use Rattle.telegram.specs.declared.Reading.{Reading}
 use Rattle.telegram.proofs.Valid.{accepted-sendable}
-use Rattle.listener.specs.Listeners.{carries, afterReading, hearOf}
+use Rattle.listener.specs.Listeners.{carries, hearOf}
 use Rattle.listener.specs.declared.Listener.{Listener}
+use Rattle.listener.proofs.Hearing.{hear-refused, hear-as}
 use Rattle.listener.proofs.Listener.hear.Statement.{statement}
 use Rattle.listener.proofs.Listener.hear.Tie as tie
 
-module _ (bytes : List ℕ) {reading : Reading} (r : reading ≡ readOf bytes) where
-  -- what is accepted has a packet number from 3 to 7
-  packet-heard : Bytes bytes → reading .verdict ≡ Accepted → (3 ≤ reading .telegram .packet) × (reading .telegram .packet ≤ 7)
-  packet-heard fits e =
-      let s = accepted-sendable bytes fits (ap (λ (x : Reading). x .verdict) (sym r) ∙ e) in
-      subst (λ (x : Reading). (3 ≤ x .telegram .packet) × (x .telegram .packet ≤ 7)) (sym r) (s .packet-from, s .packet-to)
-
-  after : (listener : Listener) {verdict : Verdict} → reading .verdict ≡ verdict → afterReading verdict carries listener (reading .telegram) ≡ hearOf carries listener (readOf bytes)
-  unfolding hearOf
-  after listener e = ap (λ (v : Verdict). afterReading v carries listener (reading .telegram)) (sym e) ∙ ap (hearOf carries listener) r
+-- what is accepted has a packet number from 3 to 7
+packet-heard : (bytes : List ℕ) {reading : Reading} → reading ≡ readOf bytes → Bytes bytes → reading .verdict ≡ Accepted
+    → (3 ≤ reading .telegram .packet) × (reading .telegram .packet ≤ 7)
+packet-heard bytes r fits e =
+    let s = accepted-sendable bytes fits (ap (λ (x : Reading). x .verdict) (sym r) ∙ e) in
+    subst (λ (x : Reading). (3 ≤ x .telegram .packet) × (x .telegram .packet ≤ 7)) (sym r) (s .packet-from, s .packet-to)
 
 read-requires : tie.Need-read-requires
 read-requires c κs = search needs
@@ -43,13 +39,13 @@ returns : tie.Need-returns
 returns c =
     let reader = c .before .before .before in
     let a = reader .before .before .args in
-    after (a .telegram .now) (reader .read .ensures) (a .self) (c .before .verdict .given .1)
+    sym (hear-refused carries (a .self) (reader .read .result) _ (c .before .verdict .given .1)) ∙ ap (hearOf carries (a .self)) (reader .read .ensures)
 
 returns-2 : tie.Need-returns-2
 returns-2 c =
     let reader = c .before .before .before in
     let a = reader .before .before .args in
-    c .listen .ensures ∙ after (a .telegram .now) (reader .read .ensures) (a .self) (c .before .enum-told .given .1)
+    c .listen .ensures ∙ (sym (hear-as carries (a .self) (reader .read .result) (c .before .enum-told .given .1)) ∙ ap (hearOf carries (a .self)) (reader .read .ensures))
 
 pub hear-spec : {M : Type 1} → statement M
 hear-spec =
