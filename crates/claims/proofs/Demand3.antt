@@ -16,7 +16,7 @@ use Rattle.telegram.proofs.Refusals.{packet-fills}
 use Rattle.desk.specs.Desks.{rest as eight, telegramOf}
 use Rattle.desk.proofs.Tables.{telegram-is, packet-sendable}
 use Rattle.picture.proofs.Carrying.{mark-at, carried-exactly, none-carried}
-use Rattle.listener.specs.Listeners.{carries, freshListener, markAt}
+use Rattle.listener.specs.Listeners.{carries, markAt}
 use Rattle.listener.proofs.Hearing.{fresh-unmarked}
 use Rattle.claims.specs.Calls.{deskOf, tableIn}
 use Rattle.claims.specs.Hearings.{Item, sent, wholes}
@@ -37,7 +37,7 @@ module _ (rest limit : ℕ) (enough : limit ≤ rest) (few : rest ≤ 11) {Messa
 
   -- a mark is set exactly when the condition is carried
   marked : (whole : List ℕ) → Falling rest limit binding calls whole → (i : ℕ)
-      → (markAt (marksFor rest limit binding calls whole (freshListener .marks)) i ≡ true) ↔ Carried rest limit binding calls whole i
+      → (markAt (marksFor rest limit binding calls whole) i ≡ true) ↔ Carried rest limit binding calls whole i
   marked [] f i = (λ e. clash e (fresh-unmarked i), λ none. absurd none)
   marked (n ∷ []) f i = (
     λ e. clash e (mark-at limit 0 (pictureOf rest limit binding calls []) (tableIn rest calls n) i ∙ none-carried limit (pictureOf rest limit binding calls []) (tableSlot (tableIn rest calls n) i)),

@@ -56,16 +56,16 @@ module _ (rest limit : ℕ) {Message : Type 0} (binding : Binding Message) (call
   packetOf n p = record { packet = p; step = n % steps; slots = fourOf (T n) p }
 
   -- the marks of the newest table, by the one before it
-  abbrev pub marksFor : List ℕ → List Bool → List Bool
-  marksFor [] none = none
-  marksFor (n ∷ before) none = marksOf limit (distance rest limit binding calls before n) (pictureOf rest limit binding calls before) (T n)
+  abbrev pub marksFor : List ℕ → List Bool
+  marksFor [] = freshListener .marks
+  marksFor (n ∷ before) = marksOf limit (distance rest limit binding calls before n) (pictureOf rest limit binding calls before) (T n)
 
   -- ---- what the listener shows, and what it has in hand
 
   pub record Shown (whole : List ℕ) (l : Listener) : Type 0 where
     pub picture : l .picture ≡ pictureOf rest limit binding calls whole
     pub last : l .last ≡ lastOf rest limit binding calls whole
-    pub marks : l .marks ≡ marksFor whole (freshListener .marks)
+    pub marks : l .marks ≡ marksFor whole
 
   data InHand (r : List (Item Message)) (hand : Hand) : Type 0 where
     -- nothing: and nothing was heard of a step that may still come
