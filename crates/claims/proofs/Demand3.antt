@@ -7,7 +7,7 @@ use mathlib.Core.Bool.{true}
 use mathlib.Core.List.{List, [], _∷_}
 use native.Mathlib.Omega.{arith}
 use Rattle.kit.proofs.Cases.{clash, given}
-use Rattle.condition.specs.declared.verdicts.Verdict.the-variants.{Accepted}
+use Rattle.wire.specs.declared.verdicts.Verdict.the-variants.{Accepted}
 use lib.ListN.{length}
 use Rattle.telegram.specs.Tables.{tableSlot, fourOf}
 use Rattle.telegram.specs.Telegrams.{readOf}

@@ -10,11 +10,11 @@ use lib.ListN.{length}
 use native.Mathlib.Omega.{arith}
 use borrow.Author.Tests.{eqb-true, eqb-false, eq-eqb, ne-eqb}
 use Rattle.kit.proofs.Cases.{on, clash, given}
-use Rattle.condition.specs.Steps.{steps}
-use Rattle.condition.specs.Verdicts.{numberOf}
-use Rattle.condition.proofs.Round.{gap-true}
+use Rattle.wire.specs.Steps.{steps}
+use Rattle.wire.specs.Verdicts.{numberOf}
+use Rattle.wire.proofs.Round.{gap-true}
 use Rattle.condition.specs.declared.slots.Slot.{Slot}
-use Rattle.condition.specs.declared.verdicts.Verdict.the-variants.{Accepted}
+use Rattle.wire.specs.declared.verdicts.Verdict.the-variants.{Accepted}
 use Rattle.telegram.specs.Tables.{packets, firstPacket, fourOf}
 use Rattle.condition.specs.Slots.{slots}
 use Rattle.telegram.specs.declared.Telegram.{Telegram}

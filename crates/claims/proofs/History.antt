@@ -12,9 +12,9 @@ use native.Mathlib.Nat.{add-zero}
 use borrow.Author.Tests.{eqb-true, eqb-false, ne-eqb, ltb-true, ltb-false, lt-ltb, le-ltb}
 use Rattle.kit.proofs.Cases.{on, given}
 use Rattle.condition.specs.Slots.{isOccupied, kindOf, slots}
-use Rattle.condition.specs.Steps.{steps}
-use Rattle.condition.specs.Verdicts.{numberOf}
-use Rattle.condition.specs.declared.verdicts.Verdict.the-variants.{Accepted as Passed}
+use Rattle.wire.specs.Steps.{steps}
+use Rattle.wire.specs.Verdicts.{numberOf}
+use Rattle.wire.specs.declared.verdicts.Verdict.the-variants.{Accepted as Passed}
 use Rattle.condition.proofs.Coding.{held-occupied}
 use Rattle.telegram.specs.Tables.{tableSlot}
 use Rattle.orders.specs.Orders.{listRefusal, placeAt}

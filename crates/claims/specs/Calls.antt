@@ -4,7 +4,7 @@ use mathlib.Core.Bool.{Bool, cond}
 use mathlib.Core.List.{List, [], _∷_}
 use lib.Dec.{eqb, ltb}
 use lib.ListN.{length}
-use Rattle.condition.specs.Verdicts.{numberOf}
+use Rattle.wire.specs.Verdicts.{numberOf}
 use Rattle.condition.specs.declared.slots.Slot.{Slot}
 use Rattle.orders.specs.Orders.{placeAt}
 use Rattle.desk.specs.Desks.{freshWith, acceptOf, tableOf}

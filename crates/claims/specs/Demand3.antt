@@ -16,10 +16,10 @@ use mathlib.Core.Bool.{true, cond}
 use mathlib.Core.List.{List, [], _∷_}
 use lib.ListN.{length, replicate}
 use Rattle.condition.specs.Slots.{emptySlot, slots}
-use Rattle.condition.specs.Steps.{steps}
-use Rattle.condition.specs.Verdicts.{numberOf}
+use Rattle.wire.specs.Steps.{steps}
+use Rattle.wire.specs.Verdicts.{numberOf}
 use Rattle.condition.specs.declared.slots.Slot.{Slot}
-use Rattle.condition.specs.declared.verdicts.Verdict.the-variants.{Accepted, Refused}
+use Rattle.wire.specs.declared.verdicts.Verdict.the-variants.{Accepted, Refused}
 use Rattle.telegram.specs.Sendable.{Sendable}
 use Rattle.telegram.specs.Telegrams.{readOf, written}
 use Rattle.telegram.specs.declared.Reading.{Reading}

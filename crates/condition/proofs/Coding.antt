@@ -10,15 +10,15 @@ use borrow.Author.Tests.{eqb-true, eqb-false, ltb-true, leb-true, ne-eqb, lt-ltb
 use Rattle.kit.specs.Ladder.{ladder, Decides, Silent, Numbered}
 use Rattle.kit.proofs.Cases.{on, clash, given, and-both, and-second, above-zero}
 use Rattle.kit.proofs.Ladder.{ladder-silent}
-use Rattle.condition.specs.Distances.{noValue}
+use Rattle.wire.specs.Distances.{noValue}
 use Rattle.condition.specs.Words.{isType, isConsidered, secondAllowed, secondHeld}
 use Rattle.condition.specs.Slots.{isFilled, isOccupied, bodyOf, slotRows, slotIn, slotOf, coding, codedOf, settled, HeldBody, Held}
 use Rattle.condition.specs.declared.slots.Body.{Body}
 use Rattle.condition.specs.declared.slots.Body.the-variants.{Empty, Area, Traction, Current}
 use Rattle.condition.specs.declared.slots.Coded.{Coded}
 use Rattle.condition.specs.declared.slots.Slot.{Slot}
-use Rattle.condition.specs.declared.verdicts.Verdict.the-variants.{Accepted, Refused}
-use Rattle.condition.proofs.Answers.{verdict-accepted, refused-when, accepted-when}
+use Rattle.wire.specs.declared.verdicts.Verdict.the-variants.{Accepted, Refused}
+use Rattle.wire.proofs.Answers.{verdict-accepted, refused-when, accepted-when}
 
 pub slot-numbered : (c : Coded) → Numbered (slotRows c)
 unfolding slotRows

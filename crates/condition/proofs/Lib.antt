@@ -1,4 +1,1 @@
-pub mod Answers
 pub mod Coding
-pub mod Metres
-pub mod Round

@@ -7,8 +7,8 @@ use mathlib.Core.List.{List, [], _∷_, _++_}
 use lib.Dec.{eqb, ltb}
 use Rattle.kit.specs.Bytes.{wordBytes}
 use Rattle.kit.specs.Ladder.{ladder}
-use Rattle.condition.specs.Distances.{noValue}
-use Rattle.condition.specs.Verdicts.{verdictOf}
+use Rattle.wire.specs.Distances.{noValue}
+use Rattle.wire.specs.Verdicts.{verdictOf}
 use Rattle.condition.specs.Words.{isType, secondAllowed, secondHeld}
 use Rattle.condition.specs.declared.slots.Body.{Body}
 use Rattle.condition.specs.declared.slots.Body.the-variants.{Empty, Area, Traction, Current}

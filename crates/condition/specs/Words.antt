@@ -3,7 +3,7 @@
 use Prim.Native.Nat.{ℕ, _%_}
 use mathlib.Core.Bool.{Bool, true, cond, not, _&&_, _||_}
 use lib.Dec.{eqb, ltb, leb}
-use Rattle.condition.specs.Distances.{noValue}
+use Rattle.wire.specs.Distances.{noValue}
 
 -- K-02: 1 powerless, pantograph lowered; 2 air tightness; 3 powerless, main switch off; 4 change of traction system; 5 change of
 -- allowed current; 6 to 9 brake inhibition: regenerative, magnetic shoe, eddy current service, eddy current emergency

@@ -1,15 +1,8 @@
-// What a condition is: distances, the two words and the rule for the second (words), the slot that holds a condition and the
-// number, type and words that code it (slots), the arithmetic of step numbers (steps), and the answer of every call that may
-// refuse (verdicts).
-mod distances;
+// What a condition is: its type, its two words and the rule for the second (words), the slot that holds a condition and the number,
+// type and words that code it (slots).
 mod slots;
-mod steps;
-mod verdicts;
 mod words;
 
-pub use distances::Distance;
-pub use distances::NO_VALUE;
-pub use distances::distance_of;
 pub use slots::Body;
 pub use slots::Coded;
 pub use slots::SLOTS;
@@ -19,11 +12,6 @@ pub use slots::body_of;
 pub use slots::coded_of;
 pub use slots::refusal_of;
 pub use slots::slot_of;
-pub use steps::STEPS;
-pub use steps::gap;
-pub use verdicts::Verdict;
-pub use verdicts::above;
 pub use words::is_kind;
 pub use words::second_allowed;
 pub use words::second_held;
-pub use words::word;

@@ -1,7 +1,6 @@
 // A slot, and the number, type and two words that code it.
 ghost use mathlib.Core.Path.{_≡_};
 ghost use Rattle.condition.specs.Slots.{emptySlot, isOccupied, bodyOf, slotRefusal, slotOf, codedOf};
-use crate::verdicts::Verdict;
 use crate::words::COUNTRIES;
 use crate::words::CURRENT;
 use crate::words::TRACTION;
@@ -9,6 +8,7 @@ use crate::words::VOLTAGES;
 use crate::words::is_kind;
 use crate::words::second_allowed;
 use crate::words::second_held;
+use wire::Verdict;
 
 // How many slots a table has.
 pub const SLOTS: usize = 20;

@@ -1,15 +1,7 @@
 // The words of a condition, and which second words its type allows.
 ghost use mathlib.Core.Path.{_≡_};
-ghost use Rattle.kit.specs.Bytes.{word};
 ghost use Rattle.condition.specs.Words.{isType, tractionWord, currentWord, isConsidered, secondAllowed, secondHeld};
-use crate::distances::NO_VALUE;
-
-// A word of two bytes, high byte first.
-pub fn word(high: u8, low: u8) -> u16
-    ensures { λ r. ⌜ r ≡ word high low ⌝ }
-{
-    high as u16 * 256 + low as u16
-}
+use wire::NO_VALUE;
 
 // The types whose second word is no distance; the highest type.
 pub const TRACTION: u8 = 4;

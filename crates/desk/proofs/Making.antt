@@ -6,8 +6,8 @@ use lib.Dec.{eqb}
 use native.Mathlib.Omega.{arith}
 use borrow.Author.Tests.{eqb-true, eqb-false, ne-eqb}
 use Rattle.kit.proofs.Cases.{on}
-use Rattle.condition.proofs.Answers.{verdict-accepted, verdict-refused}
-use Rattle.condition.specs.declared.verdicts.Verdict.the-variants.{Accepted as accepted, Refused}
+use Rattle.wire.proofs.Answers.{verdict-accepted, verdict-refused}
+use Rattle.wire.specs.declared.verdicts.Verdict.the-variants.{Accepted as accepted, Refused}
 use Rattle.orders.specs.Orders.{orderCount, listRefusal}
 use Rattle.orders.proofs.Lists.{fair}
 use Rattle.numbers.specs.Numbers.{isResting}

@@ -10,9 +10,9 @@ use native.Mathlib.Omega.{arith}
 use Rattle.kit.specs.Ladder.{Decides, Silent}
 use Rattle.kit.specs.Member.{member}
 use Rattle.kit.proofs.Cases.{given}
-use Rattle.condition.proofs.Answers.{refused-when, accepted-when}
+use Rattle.wire.proofs.Answers.{refused-when, accepted-when}
 use Rattle.condition.specs.Slots.{codedOf}
-use Rattle.condition.specs.declared.verdicts.Verdict.the-variants.{Accepted, Refused}
+use Rattle.wire.specs.declared.verdicts.Verdict.the-variants.{Accepted, Refused}
 use Rattle.telegram.specs.Telegrams.{readOf, bytesOf}
 use Rattle.orders.specs.Orders.{orderAt, placeOf, stands, orderNamed, placeAt, isLive, listRows, listRefusal}
 use Rattle.orders.proofs.Lists.{fair}

@@ -11,8 +11,8 @@ use lib.ListN.{length, length-map, List·getD-eq-default}
 use native.Mathlib.Omega.{arith}
 use borrow.Author.Tests.{ltb-true, ltb-false}
 use Rattle.kit.proofs.Cases.{on, clash, given}
-use Rattle.condition.specs.Steps.{steps, gapOf}
-use Rattle.condition.proofs.Round.{gap-round, gap-only}
+use Rattle.wire.specs.Steps.{steps, gapOf}
+use Rattle.wire.proofs.Round.{gap-round, gap-only}
 use Rattle.orders.specs.Orders.{orderNamed, stands, orderAt, orderCount, listedAt, freePlace, placeAt, placeOf, isLive}
 use Rattle.condition.specs.Slots.{slots}
 use Rattle.orders.specs.declared.Place.{Place}

@@ -12,7 +12,7 @@ use native.Mathlib.Omega.{arith}
 use Rattle.kit.proofs.Cases.{on, clash, given}
 use Rattle.kit.proofs.Maps.{replicate-at}
 use Rattle.condition.specs.Slots.{codedOf, slots}
-use Rattle.condition.specs.Steps.{steps}
+use Rattle.wire.specs.Steps.{steps}
 use Rattle.orders.specs.Orders.{stands, freePlace, placeAt, placeOf}
 use Rattle.orders.specs.declared.Place.{Place}
 use Rattle.orders.proofs.Lists.{Fair, fair, live-there, live-when}

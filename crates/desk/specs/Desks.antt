@@ -4,7 +4,7 @@ use mathlib.Core.Bool.{cond}
 use mathlib.Core.List.{List, map}
 use lib.Dec.{eqb}
 use lib.ListN.{replicate}
-use Rattle.condition.specs.Verdicts.{verdictOf}
+use Rattle.wire.specs.Verdicts.{verdictOf}
 use Rattle.condition.specs.declared.slots.Slot.{Slot}
 use Rattle.telegram.specs.Tables.{fourOf}
 use Rattle.telegram.specs.declared.Telegram.{Telegram}

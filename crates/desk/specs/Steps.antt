@@ -6,7 +6,7 @@ use lib.Dec.{eqb}
 use lib.ListN.{length, take, set}
 use Rattle.kit.specs.Loops.{fold}
 use Rattle.condition.specs.Slots.{bodyOf}
-use Rattle.condition.specs.Steps.{steps}
+use Rattle.wire.specs.Steps.{steps}
 use Rattle.condition.specs.declared.slots.Body.{Body}
 use Rattle.orders.specs.Orders.{lowestFree, stands, orderNamed, orderAt, orderCount, freePlace, isLive}
 use Rattle.orders.specs.declared.Order.{Order}

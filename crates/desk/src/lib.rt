@@ -5,10 +5,10 @@ mod leaving;
 
 use arriving::Seats;
 use condition::Slot;
-use condition::Verdict;
 use numbers::Ended;
 use orders::Place;
 use telegram::Telegram;
+use wire::Verdict;
 ghost use mathlib.Core.Path.{_≡_};
 ghost use Rattle.telegram.specs.Telegrams.{writeVerdict, written};
 ghost use Rattle.orders.specs.Orders.{listRefusal};
@@ -37,7 +37,7 @@ impl Desk {
     pub const REST: u16 = 8;
 
     // How many step numbers there are.
-    pub const STEPS: u16 = condition::STEPS;
+    pub const STEPS: u16 = wire::STEPS;
 
     // A desk at step 0 with all slots empty.
     pub fn fresh() -> Self

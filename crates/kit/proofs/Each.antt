@@ -1,7 +1,8 @@
--- Laws of `each`, for parts that are all of one size: how long it is, and which part an index lies in.
+-- Laws of `each`, for parts that are all of one size: how long it is, and which part an index lies in; and where each part is one
+-- element.
 use Prim.Native.Nat.{ℕ, zero, suc, _+_, _*_, _<_}
-use mathlib.Core.Path.{_≡_, sym, ap, _∙_}
-use mathlib.Core.List.{List, _++_, append-nil, append-assoc}
+use mathlib.Core.Path.{_≡_, refl, sym, ap, _∙_}
+use mathlib.Core.List.{List, [], _∷_, _++_, append-nil, append-assoc}
 use lib.ListN.{length, getD, length-append, List·getD-append}
 use lib.Seq.{getD-append-add}
 use native.Mathlib.Omega.{arith}
@@ -38,3 +39,14 @@ module _ {A : Type 0} (of : ℕ → List A) (size : ℕ) (sized : (i : ℕ) → 
       let f : k + 1 + j ≡ k + suc j = omega arith in
       ap (λ (x : ℕ). getD (of k ++ each of (k + 1) n) x other) e
       ∙ (getD-append-add (of k) (each of (k + 1) n) (j * size + r) other ∙ (each-at other (k + 1) n j r (omega arith) q ∙ ap (λ (x : ℕ). getD (of x) r other) f))
+
+-- one element for each thing: element j is that of thing j
+module _ {A : Type 0} (of : ℕ → A) (n : ℕ) where
+  pub length-one-each : length (each (λ i. of i ∷ []) 0 n) ≡ n
+  length-one-each = omega (arith, length-each (λ i. of i ∷ []) 1 (λ i. refl) 0 n)
+
+  pub one-each-at : (other : A) (j : ℕ) → j < n → getD (each (λ i. of i ∷ []) 0 n) j other ≡ of j
+  one-each-at other j p =
+      let e : j ≡ j * 1 + 0 = omega arith in
+      let f : 0 + j ≡ j = omega arith in
+      ap (λ (x : ℕ). getD (each (λ i. of i ∷ []) 0 n) x other) e ∙ (each-at (λ i. of i ∷ []) 1 (λ i. refl) other 0 n j 0 p (omega arith) ∙ ap of f)

@@ -9,8 +9,8 @@ use Rattle.kit.proofs.Maps.{replicate-at}
 use Rattle.kit.proofs.Stores.{sets-each}
 use Rattle.condition.specs.Slots.{emptySlot, Held, slots}
 use Rattle.condition.specs.declared.slots.Slot.{Slot}
-use Rattle.condition.specs.declared.verdicts.Verdict.{Verdict}
-use Rattle.condition.specs.declared.verdicts.Verdict.the-variants.{Accepted, Refused}
+use Rattle.wire.specs.declared.verdicts.Verdict.{Verdict}
+use Rattle.wire.specs.declared.verdicts.Verdict.the-variants.{Accepted, Refused}
 use Rattle.telegram.specs.Sendable.{slotOn}
 use Rattle.telegram.specs.Tables.{tableSlot, firstSlot}
 use Rattle.telegram.specs.Telegrams.{readOf}

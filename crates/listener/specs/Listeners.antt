@@ -6,9 +6,9 @@ use lib.Dec.{eqb}
 use lib.ListN.{getD, replicate}
 use Rattle.kit.specs.Ladder.{ladder}
 use Rattle.condition.specs.Slots.{emptySlot, slots}
-use Rattle.condition.specs.Steps.{gapOf}
-use Rattle.condition.specs.declared.verdicts.Verdict.{Verdict}
-use Rattle.condition.specs.declared.verdicts.Verdict.the-variants.{Accepted, Refused}
+use Rattle.wire.specs.Steps.{gapOf}
+use Rattle.wire.specs.declared.verdicts.Verdict.{Verdict}
+use Rattle.wire.specs.declared.verdicts.Verdict.the-variants.{Accepted, Refused}
 use Rattle.telegram.specs.Telegrams.{readRows, readOf}
 use Rattle.telegram.specs.declared.Reading.{Reading}
 use Rattle.telegram.specs.declared.Telegram.{Telegram}

@@ -4,9 +4,9 @@ mod sets;
 
 use condition::SLOTS;
 use condition::Slot;
-use condition::Verdict;
 pub use sets::Hand;
 use telegram::Telegram;
+use wire::Verdict;
 ghost use mathlib.Core.Path.{_≡_};
 ghost use Prim.Native.Nat.{_≤_};
 ghost use Rattle.telegram.specs.Tables.{tableSlot};
@@ -117,7 +117,7 @@ fn gap_from(last: Last, step: u16) -> u16
 {
     match last {
         Last::Never => 0,
-        Last::Step(taken) => condition::gap(step, taken),
+        Last::Step(taken) => wire::gap(step, taken),
     }
 }
 

@@ -15,7 +15,7 @@ use Rattle.kit.specs.Member.{member}
 use Rattle.kit.proofs.Cases.{on, clash, given, or-neither, and-both}
 use Rattle.kit.proofs.Loops.{scan-at, find-before, found-there, found-when, any-none, any-some}
 use Rattle.kit.proofs.Member.{member-map, member-append, pigeonhole}
-use Rattle.condition.specs.Steps.{gapOf}
+use Rattle.wire.specs.Steps.{gapOf}
 use Rattle.orders.specs.Orders.{placeAt, freePlace}
 use Rattle.condition.specs.Slots.{slots}
 use Rattle.orders.specs.declared.Place.{Place}

@@ -8,7 +8,7 @@ use mathlib.Core.List.{List}
 use lib.Dec.{eqb, ltb}
 use lib.ListN.{length, getD}
 use Rattle.kit.specs.Loops.{scan, any}
-use Rattle.condition.specs.Steps.{gapOf}
+use Rattle.wire.specs.Steps.{gapOf}
 use Rattle.orders.specs.Orders.{placeAt}
 use Rattle.condition.specs.Slots.{slots}
 use Rattle.orders.specs.declared.Place.{Place}

@@ -33,7 +33,7 @@ fn rests_by(entry: Ended, rest: u16, step: u16, number: u8) -> bool
     if entry.number != number {
         return false;
     }
-    condition::gap(step, entry.step) < rest
+    wire::gap(step, entry.step) < rest
 }
 
 // Whether a number rests in this step.

@@ -5,7 +5,7 @@ use mathlib.Core.Bool.{Bool, not, _&&_}
 use mathlib.Core.List.{List, [], _∷_}
 use lib.Dec.{eqb, ltb}
 use lib.ListN.{length, getD}
-use Rattle.kit.specs.Bytes.{word}
+use Rattle.kit.specs.Bytes.{wordAt, longAt}
 use Rattle.kit.specs.Each.{each}
 use Rattle.kit.specs.Ladder.{ladder}
 use Rattle.kit.specs.Loops.{find}
@@ -15,19 +15,15 @@ use Rattle.orders.specs.declared.Place.{Place}
 
 -- ---- the list
 
--- D-01, K-05: two bytes of the list, high first
-abbrev pub wordIn : List ℕ → ℕ → ℕ
-wordIn list i = word (getD list i 0) (getD list (i + 1) 0)
-
--- D-01: ten bytes each: order number (4 bytes, high first), type, a zero byte, first word, second word
+-- D-01, K-05: ten bytes each: order number (4 bytes, high first), type, a zero byte, first word, second word
 unfoldable pub orderAt : List ℕ → ℕ → Order
 orderAt list j =
     record {
-      number = wordIn list (10 * j) * 0x10000 + wordIn list (10 * j + 2);
+      number = longAt list (10 * j);
       kind = getD list (10 * j + 4) 0;
       spare = getD list (10 * j + 5) 0;
-      first = wordIn list (10 * j + 6);
-      second = wordIn list (10 * j + 8);
+      first = wordAt list (10 * j + 6);
+      second = wordAt list (10 * j + 8);
     }
 
 -- D-01: how many orders a list has

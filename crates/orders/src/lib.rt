@@ -4,10 +4,9 @@ use condition::SLOTS;
 use condition::Slot;
 ghost use mathlib.Core.Path.{_≡_};
 ghost use Prim.Native.Nat.{_<_};
-ghost use lib.ListN.{getD};
 ghost use Rattle.kit.specs.Each.{each};
 ghost use Rattle.kit.specs.Ladder.{ladder};
-ghost use Rattle.orders.specs.Orders.{freePlace, wordIn, orderAt, listedAt, placeOf, isRetyped, orderRows, listRefusal};
+ghost use Rattle.orders.specs.Orders.{freePlace, orderAt, listedAt, placeOf, isRetyped, orderRows, listRefusal};
 
 // How many bytes an order has, and the most that a list may have.
 pub const LENGTH: usize = 10;
@@ -39,34 +38,17 @@ impl Place {
     }
 }
 
-// Past the end every byte is 0.
-fn byte_at(list: &[u8], i: usize) -> u8
-    ensures { λ r. ⌜ r ≡ getD (now (list .entry)) i 0 ⌝ }
-{
-    if i < list.len() {
-        return list[i];
-    }
-    0
-}
-
-fn word_at(list: &[u8], i: usize) -> u16
-    requires { ⌜ i < 4096 ⌝ }
-    ensures { λ r. ⌜ r ≡ wordIn (now (list .entry)) i ⌝ }
-{
-    condition::word(byte_at(list, i), byte_at(list, i + 1))
-}
-
 // Order j of a list, counted from 0.
 pub fn order_at(list: &[u8], j: u8) -> Order
     ensures { λ r. ⌜ r ≡ orderAt (now (list .entry)) j ⌝ }
 {
     let at = LENGTH * (j as usize);
     Order {
-        number: word_at(list, at) as u32 * 0x10000 + word_at(list, at + 2) as u32,
-        kind: byte_at(list, at + 4),
-        spare: byte_at(list, at + 5),
-        first: word_at(list, at + 6),
-        second: word_at(list, at + 8),
+        number: wire::long_at(list, at),
+        kind: wire::byte_at(list, at + 4),
+        spare: wire::byte_at(list, at + 5),
+        first: wire::word_at(list, at + 6),
+        second: wire::word_at(list, at + 8),
     }
 }
 

@@ -15,8 +15,8 @@ use Rattle.kit.specs.Each.{each}
 use Rattle.kit.specs.Ladder.{ladder}
 use Rattle.kit.specs.Loops.{scan, fold, count}
 use Rattle.condition.specs.Slots.{bodyOf, codedOf, slotRows, sixOf}
-use Rattle.condition.specs.Steps.{gapOf}
-use Rattle.condition.specs.Verdicts.{verdictOf}
+use Rattle.wire.specs.Steps.{gapOf}
+use Rattle.wire.specs.Verdicts.{verdictOf}
 use Rattle.condition.specs.Words.{isConsidered, secondAllowed, secondHeld}
 use Rattle.telegram.specs.Tables.{fourOf}
 use Rattle.telegram.specs.Telegrams.{readOf, readRows, codedAt, takenBefore, telegramOf, bytesOf, written}

@@ -11,11 +11,11 @@ use Rattle.kit.specs.Ladder.{ladder}
 use Rattle.kit.specs.Loops.{scan, fold}
 use Rattle.kit.proofs.Cases.{on}
 use Rattle.condition.specs.Slots.{bodyOf, codedOf}
-use Rattle.condition.specs.Steps.{steps, gapOf}
-use Rattle.condition.specs.Verdicts.{verdictOf}
+use Rattle.wire.specs.Steps.{steps, gapOf}
+use Rattle.wire.specs.Verdicts.{verdictOf}
 use Rattle.condition.specs.Words.{isConsidered, secondAllowed, secondHeld}
 use Rattle.condition.specs.declared.slots.Body.the-variants.{Area}
-use Rattle.condition.specs.declared.verdicts.Verdict.the-variants.{Accepted}
+use Rattle.wire.specs.declared.verdicts.Verdict.the-variants.{Accepted}
 use Rattle.orders.specs.Orders.{freePlace, orderAt, listedAt, placeOf, orderRows, isRetyped, listRows}
 use Rattle.orders.specs.declared.Place.{Place}
 use Rattle.numbers.specs.Numbers.{noneEnded, restsBy, isResting, hasNumber, nextNumber}

@@ -3,7 +3,7 @@ use Prim.Native.Nat.{ℕ, zero, suc, _+_, _*_, _/_, _%_}
 use mathlib.Core.List.{List, [], _∷_, _++_, map}
 use lib.ListN.{replicate}
 use Rattle.kit.specs.Each.{each}
-use Rattle.condition.specs.Steps.{gapOf}
+use Rattle.wire.specs.Steps.{gapOf}
 use Rattle.orders.specs.Orders.{listRefusal}
 use Rattle.orders.specs.declared.Place.{Place}
 use Rattle.desk.specs.Desks.{rest, freshDesk}

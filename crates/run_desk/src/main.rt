@@ -1,10 +1,10 @@
 // Reads lists of orders from standard input, each after its length in two bytes, high first, and hands them to a desk. For each
 // accepted list the table goes to standard output as five telegrams; for each refused one a line goes to standard error.
-use condition::Verdict;
 use desk::Desk;
 use libc::STDERR_FILENO;
 use libc::STDIN_FILENO;
 use libc::STDOUT_FILENO;
+use wire::Verdict;
 ghost use mathlib.Core.Path.{_≡_};
 ghost use lib.ListN.{length};
 ghost use Rattle.desk.specs.Desks.{rest, acceptOf, Made};
@@ -50,7 +50,7 @@ fn read_list(bytes: &mut [u8]) -> Input
     if got == 1 {
         return Input::Short;
     }
-    let length = condition::word(head[0], head[1]);
+    let length = wire::word(head[0], head[1]);
     let read = io::read_full(STDIN_FILENO, &mut bytes[..length as usize]);
     if read < length as usize {
         return Input::Short;

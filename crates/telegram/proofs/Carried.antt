@@ -5,7 +5,7 @@ use mathlib.Core.List.{List}
 use lib.ListN.{length, getD}
 use native.Mathlib.Omega.{arith}
 use Rattle.condition.specs.Slots.{emptySlot, Held}
-use Rattle.condition.specs.Steps.{steps}
+use Rattle.wire.specs.Steps.{steps}
 use Rattle.condition.specs.declared.slots.Slot.{Slot}
 use Rattle.telegram.specs.Sendable.{Sendable}
 use Rattle.telegram.specs.Tables.{firstSlot, carriedSlot, fourOf}

@@ -14,7 +14,7 @@ use Rattle.kit.proofs.Loops.{scan-none}
 use Rattle.condition.specs.Slots.{slotRows, slotIn, coding, codedOf, HeldBody}
 use Rattle.condition.specs.declared.slots.Body.{Body}
 use Rattle.condition.specs.declared.slots.Body.the-variants.{Empty, Area, Traction, Current}
-use Rattle.condition.specs.declared.verdicts.Verdict.the-variants.{Accepted}
+use Rattle.wire.specs.declared.verdicts.Verdict.the-variants.{Accepted}
 use Rattle.condition.proofs.Coding.{coded-silent, slot-in-back}
 use Rattle.telegram.specs.Telegrams.{place, codedAt, takenBefore, takenRow, placeRows, readRows, slotAt, telegramOf, readOf, bytesOf}
 use Rattle.telegram.specs.Sendable.{slotOn, Sendable}

@@ -9,8 +9,8 @@ use lib.ListN.{length}
 use borrow.Author.Tests.{eqb-true, eqb-false, eq-eqb, le-leb}
 use Rattle.kit.specs.Ladder.{Decides, Silent}
 use Rattle.kit.proofs.Cases.{on}
-use Rattle.condition.proofs.Answers.{accepted-or-refused, refused-when, accepted-when}
-use Rattle.condition.specs.declared.verdicts.Verdict.the-variants.{Accepted, Refused}
+use Rattle.wire.proofs.Answers.{accepted-or-refused, refused-when, accepted-when}
+use Rattle.wire.specs.declared.verdicts.Verdict.the-variants.{Accepted, Refused}
 use Rattle.telegram.specs.Telegrams.{readRows, readOf, bytesOf, writeRows, writeRefusal, writeVerdict, written}
 use Rattle.telegram.specs.declared.Telegram.{Telegram}
 use Rattle.telegram.proofs.Rows.{read-numbered, write-numbered, write-refused, write-accepted}

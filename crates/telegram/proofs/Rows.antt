@@ -10,8 +10,8 @@ use Rattle.kit.proofs.Ladder.{above-append, numbered-append, numbered-each, pas
 use Rattle.condition.specs.Slots.{slotRows}
 use Rattle.condition.specs.declared.slots.Coded.{Coded}
 use Rattle.condition.proofs.Coding.{slot-numbered}
-use Rattle.condition.specs.declared.verdicts.Verdict.the-variants.{Accepted, Refused}
-use Rattle.condition.proofs.Answers.{verdict-accepted, verdict-refused}
+use Rattle.wire.specs.declared.verdicts.Verdict.the-variants.{Accepted, Refused}
+use Rattle.wire.proofs.Answers.{verdict-accepted, verdict-refused}
 use Rattle.telegram.specs.Telegrams.{codedAt, takenRow, placeRows, readRows, telegramOf, blank, readOf, bytesOf, writeRows, writeVerdict, written}
 use Rattle.telegram.specs.declared.Telegram.{Telegram}
 

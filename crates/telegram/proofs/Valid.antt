@@ -10,7 +10,7 @@ use borrow.Author.Tests.{eqb-true, eqb-false, ltb-false, lt-ltb, not-false}
 use Rattle.kit.specs.Bytes.{Bytes}
 use Rattle.kit.specs.Ladder.{ladder, Silent}
 use Rattle.kit.proofs.Cases.{on, and-second}
-use Rattle.condition.specs.declared.verdicts.Verdict.the-variants.{Accepted}
+use Rattle.wire.specs.declared.verdicts.Verdict.the-variants.{Accepted}
 use Rattle.telegram.proofs.Refusals.{reading-accepted}
 use Rattle.kit.proofs.Ladder.{ladder-silent, passed-exactly, silent-append, silent-each}
 use Rattle.kit.proofs.Loops.{any-none}

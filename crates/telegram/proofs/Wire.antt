@@ -9,7 +9,7 @@ use Rattle.kit.specs.Bytes.{word}
 use Rattle.kit.proofs.Bytes.{word-back}
 use Rattle.kit.proofs.Each.{length-each, each-at}
 use Rattle.condition.specs.Slots.{codedOf, sixOf}
-use Rattle.condition.specs.Steps.{steps}
+use Rattle.wire.specs.Steps.{steps}
 use Rattle.condition.specs.declared.slots.Coded.{Coded}
 use Rattle.condition.specs.declared.slots.Slot.{Slot}
 use Rattle.telegram.specs.Telegrams.{packetIn, stepIn, place, codedAt, sixAt, bytesOf}

@@ -9,11 +9,11 @@ use Rattle.kit.specs.Each.{each}
 use Rattle.kit.specs.Ladder.{ladder}
 use Rattle.kit.specs.Loops.{any}
 use Rattle.condition.specs.Slots.{emptySlot, slotRows, slotIn, codedOf, sixOf}
-use Rattle.condition.specs.Steps.{steps}
-use Rattle.condition.specs.Verdicts.{verdictOf}
+use Rattle.wire.specs.Steps.{steps}
+use Rattle.wire.specs.Verdicts.{verdictOf}
 use Rattle.condition.specs.declared.slots.Coded.{Coded}
 use Rattle.condition.specs.declared.slots.Slot.{Slot}
-use Rattle.condition.specs.declared.verdicts.Verdict.{Verdict}
+use Rattle.wire.specs.declared.verdicts.Verdict.{Verdict}
 use Rattle.telegram.specs.declared.Reading.{Reading}
 use Rattle.telegram.specs.declared.Telegram.{Telegram}
 

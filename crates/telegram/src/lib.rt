@@ -3,7 +3,7 @@
 // telegram_writer have the code.
 use condition::SLOTS;
 use condition::Slot;
-use condition::Verdict;
+use wire::Verdict;
 ghost use mathlib.Core.Path.{_≡_};
 ghost use Rattle.telegram.specs.Tables.{tableSlot, firstSlot, fourOf};
 

@@ -47,7 +47,7 @@ fn distance_case(word: u16) {
     show::text(b"distance");
     show::word(word);
     show::text(b":");
-    show::distance(condition::distance_of(word));
+    show::distance(wire::distance_of(word));
     show::text(b"\n");
 }
 
@@ -57,7 +57,7 @@ fn gap_case(last: u16, new: u16) {
     show::text(b" to");
     show::number(new as u64);
     show::text(b":");
-    show::number(condition::gap(new, last) as u64);
+    show::number(wire::gap(new, last) as u64);
     show::text(b"\n");
 }
 

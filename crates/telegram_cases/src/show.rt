@@ -1,8 +1,8 @@
 // Pieces of text on standard output.
 use condition::Coded;
-use condition::Distance;
-use condition::Verdict;
 use libc::STDOUT_FILENO;
+use wire::Distance;
+use wire::Verdict;
 
 pub fn text(words: &[u8]) {
     io::write_all(STDOUT_FILENO, words);

@@ -1,12 +1,12 @@
 // Reading a telegram of any bytes and any length: its refusal (10, 11, then the first bad slot with 12, 13, 6, 14), or what it means.
 use condition::Coded;
-use condition::STEPS;
 use condition::Slot;
-use condition::Verdict;
 use telegram::FIRST_PACKET;
 use telegram::LENGTH;
 use telegram::Reading;
 use telegram::Telegram;
+use wire::STEPS;
+use wire::Verdict;
 ghost use mathlib.Core.Path.{_≡_};
 ghost use Prim.Native.Nat.{_<_, _≤_};
 ghost use lib.ListN.{length};
@@ -23,8 +23,8 @@ fn coded_at(bytes: &[u8], k: usize) -> Coded
     Coded {
         number: bytes[at],
         kind: bytes[at + 1],
-        first: condition::word(bytes[at + 2], bytes[at + 3]),
-        second: condition::word(bytes[at + 4], bytes[at + 5]),
+        first: wire::word(bytes[at + 2], bytes[at + 3]),
+        second: wire::word(bytes[at + 4], bytes[at + 5]),
     }
 }
 
@@ -65,7 +65,7 @@ fn place_refusal(bytes: &[u8], k: usize) -> u8
     let coded = coded_at(bytes, k);
     let own = condition::refusal_of(coded);
     let taken = taken_refusal(bytes, k, coded.number);
-    condition::above(own, taken)
+    wire::above(own, taken)
 }
 
 // The refusal of the first bad place, or 0.
@@ -89,7 +89,7 @@ fn head_of(bytes: &[u8]) -> u16
     requires { ⌜ length (now bytes) ≡ 26 ⌝ }
     ensures { λ r. ⌜ r ≡ headIn (now (bytes .entry)) ⌝ }
 {
-    condition::word(bytes[0], bytes[1])
+    wire::word(bytes[0], bytes[1])
 }
 
 // The refusal of a telegram, or 0.

@@ -1,12 +1,12 @@
 // Writing a telegram into a buffer of any length: refused 9, then 10, with no byte changed, or all 26 bytes.
 use condition::Coded;
-use condition::STEPS;
 use condition::Slot;
-use condition::Verdict;
 use telegram::FIRST_PACKET;
 use telegram::LAST_PACKET;
 use telegram::LENGTH;
 use telegram::Telegram;
+use wire::STEPS;
+use wire::Verdict;
 ghost use mathlib.Core.Path.{_≡_};
 ghost use mathlib.Core.List.{[], _∷_};
 ghost use Prim.Native.Nat.{_+_, _<_, _≤_};

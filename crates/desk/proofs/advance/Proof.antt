@@ -3,7 +3,7 @@ use Prim.Native.Nat.{ℕ, _<_}
 use mathlib.Core.List.{List, map}
 use mathlib.Core.Path.{_≡_, refl}
 use borrow.Author.Needs.{needs}
-use Rattle.condition.specs.Steps.{steps}
+use Rattle.wire.specs.Steps.{steps}
 use Rattle.orders.specs.Orders.{orderCount, listRefusal}
 use Rattle.orders.specs.declared.Place.{Place}
 use Rattle.orders.proofs.Lists.{fair-length}

@@ -2,7 +2,7 @@
 use mathlib.Core.Path.{sym}
 use borrow.Author.Tests.{eq-eqb, ne-eqb}
 use Rattle.condition.specs.Slots.{slotOf}
-use Rattle.condition.proofs.Answers.{verdict-accepted, verdict-refused}
+use Rattle.wire.proofs.Answers.{verdict-accepted, verdict-refused}
 use borrow.Author.Needs.{needs}
 use Rattle.condition.proofs.slots.slot_of.Statement.{statement}
 use Rattle.condition.proofs.slots.slot_of.Tie as tie

@@ -4,7 +4,7 @@ use mathlib.Core.List.{List}
 use mathlib.Core.Path.{_≡_, sym, ap, _∙_, subst}
 use borrow.Author.Needs.{needs}
 use Rattle.kit.specs.Bytes.{Bytes}
-use Rattle.condition.specs.declared.verdicts.Verdict.the-variants.{Accepted}
+use Rattle.wire.specs.declared.verdicts.Verdict.the-variants.{Accepted}
 use Rattle.telegram.specs.Telegrams.{readOf}
 use Rattle.telegram.specs.declared.Reading.{Reading}
 use Rattle.telegram.proofs.Valid.{accepted-sendable}

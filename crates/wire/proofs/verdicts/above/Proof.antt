@@ -1,8 +1,8 @@
 -- `above`: by the test that led there.
 use borrow.Author.Tests.{eq-eqb, ne-eqb}
 use Rattle.kit.specs.Ladder.{above}
-use Rattle.condition.proofs.verdicts.above.Statement.{statement}
-use Rattle.condition.proofs.verdicts.above.Tie as tie
+use Rattle.wire.proofs.verdicts.above.Statement.{statement}
+use Rattle.wire.proofs.verdicts.above.Tie as tie
 
 returns : tie.Need-returns
 unfolding above

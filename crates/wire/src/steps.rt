@@ -1,6 +1,6 @@
 // Step numbers go round: 8,191 is followed by 0.
 ghost use mathlib.Core.Path.{_≡_};
-ghost use Rattle.condition.specs.Steps.{gapOf};
+ghost use Rattle.wire.specs.Steps.{gapOf};
 
 // How many step numbers there are.
 pub const STEPS: u16 = 8192;

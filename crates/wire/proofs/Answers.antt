@@ -10,9 +10,9 @@ use borrow.Author.Tests.{eqb-true, eqb-false, eq-eqb, ne-eqb}
 use Rattle.kit.specs.Ladder.{ladder, Decides, Silent, Numbered}
 use Rattle.kit.proofs.Cases.{on}
 use Rattle.kit.proofs.Ladder.{refused-exactly, passed-exactly, decides-positive}
-use Rattle.condition.specs.Verdicts.{numberOf, verdictOf}
-use Rattle.condition.specs.declared.verdicts.Verdict.{Verdict}
-use Rattle.condition.specs.declared.verdicts.Verdict.the-variants.{Accepted, Refused}
+use Rattle.wire.specs.Verdicts.{numberOf, verdictOf}
+use Rattle.wire.specs.declared.verdicts.Verdict.{Verdict}
+use Rattle.wire.specs.declared.verdicts.Verdict.the-variants.{Accepted, Refused}
 
 pub accepted-or-refused : (number : ℕ) → Accepted ≡ Refused number → ⊥
 accepted-or-refused number e = let z : _≡_ {A = ℕ} 0 1 = cc in omega arith

@@ -1,6 +1,6 @@
 // A distance: metres in two's complement, or no value.
 ghost use mathlib.Core.Path.{_≡_};
-ghost use Rattle.condition.specs.Distances.{distanceOf};
+ghost use Rattle.wire.specs.Distances.{distanceOf};
 
 // The word that means no value. 7FFFh and 8001h, the words beside it, are ordinary distances.
 pub const NO_VALUE: u16 = 0x8000;

@@ -5,9 +5,9 @@ use lib.Dec.{eqb, ltb}
 use native.Mathlib.Omega.{arith}
 use borrow.Author.Tests.{eqb-true, eqb-false, ltb-true, ltb-false, ne-eqb, lt-ltb, le-ltb}
 use Rattle.kit.proofs.Cases.{on}
-use Rattle.condition.specs.Distances.{noValue, distanceOf, distanceWord, InRange}
-use Rattle.condition.specs.declared.distances.Distance.{Distance}
-use Rattle.condition.specs.declared.distances.Distance.the-variants.{Missing, Metres, Below}
+use Rattle.wire.specs.Distances.{noValue, distanceOf, distanceWord, InRange}
+use Rattle.wire.specs.declared.distances.Distance.{Distance}
+use Rattle.wire.specs.declared.distances.Distance.the-variants.{Missing, Metres, Below}
 
 -- K-06: what a word of 16 bits says is in range, and says that word
 pub word-said : (word : ℕ) → word < 0x10000 → InRange (distanceOf word) × (distanceWord (distanceOf word) ≡ word)

@@ -7,7 +7,7 @@
 use Prim.Native.Nat.{ℕ, _+_, _-_, _*_, _%_, _<_, _≤_}
 use mathlib.Core.Path.{_≡_}
 use native.Mathlib.Omega.{arith}
-use Rattle.condition.specs.Steps.{steps, gapOf}
+use Rattle.wire.specs.Steps.{steps, gapOf}
 
 pub gap-round : (new last : ℕ) → last ≤ 8 * steps → (gapOf new last < steps) × ((last + gapOf new last) % steps ≡ new % steps)
 unfolding gapOf

@@ -3,11 +3,11 @@ use Prim.Native.Nat.{ℕ, _+_, _-_}
 use mathlib.Core.Path.{_≡_, ap}
 use native.Mathlib.Omega.{arith}
 use borrow.Author.Tests.{eq-eqb, ne-eqb, lt-ltb, le-ltb}
-use Rattle.condition.specs.Distances.{distanceOf}
-use Rattle.condition.specs.declared.distances.Distance.the-variants.{Below}
+use Rattle.wire.specs.Distances.{distanceOf}
+use Rattle.wire.specs.declared.distances.Distance.the-variants.{Below}
 use borrow.Author.Needs.{needs}
-use Rattle.condition.proofs.distances.distance_of.Statement.{statement}
-use Rattle.condition.proofs.distances.distance_of.Tie as tie
+use Rattle.wire.proofs.distances.distance_of.Statement.{statement}
+use Rattle.wire.proofs.distances.distance_of.Tie as tie
 
 returns : tie.Need-returns
 unfolding distanceOf

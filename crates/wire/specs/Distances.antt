@@ -2,8 +2,8 @@
 use Prim.Native.Nat.{ℕ, _-_, _≤_}
 use mathlib.Core.Bool.{cond}
 use lib.Dec.{eqb, ltb}
-use Rattle.condition.specs.declared.distances.Distance.{Distance}
-use Rattle.condition.specs.declared.distances.Distance.the-variants.{Missing, Metres, Below}
+use Rattle.wire.specs.declared.distances.Distance.{Distance}
+use Rattle.wire.specs.declared.distances.Distance.the-variants.{Missing, Metres, Below}
 
 -- K-07: 8000h means no value
 abbrev pub noValue : ℕ

@@ -2,8 +2,8 @@
 use Prim.Native.Nat.{ℕ}
 use mathlib.Core.Bool.{cond}
 use lib.Dec.{eqb}
-use Rattle.condition.specs.declared.verdicts.Verdict.{Verdict}
-use Rattle.condition.specs.declared.verdicts.Verdict.the-variants.{Accepted, Refused}
+use Rattle.wire.specs.declared.verdicts.Verdict.{Verdict}
+use Rattle.wire.specs.declared.verdicts.Verdict.the-variants.{Accepted, Refused}
 
 -- C-12: the number that a verdict gives, 0 where nothing is refused
 abbrev pub numberOf : Verdict → ℕ

@@ -1,0 +1,3 @@
+pub mod Distances
+pub mod Steps
+pub mod Verdicts
