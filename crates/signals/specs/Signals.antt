@@ -1,0 +1,44 @@
+-- The record of signals: document 01, "Signals from the train", its last paragraph, sentence by sentence.
+use Prim.Native.Nat.{ℕ, _+_, min}
+use mathlib.Core.Bool.{Bool, true, false, cond}
+use mathlib.Core.List.{List, [], _∷_}
+use lib.Dec.{ltb}
+use Rattle.wire.specs.declared.verdicts.Verdict.{Verdict}
+use Rattle.wire.specs.declared.verdicts.Verdict.the-variants.{Accepted, Refused}
+use Rattle.train_telegram.specs.States.{silent}
+use Rattle.train_telegram.specs.Readings.{readOf}
+use Rattle.train_telegram.specs.declared.states.States.{States}
+use Rattle.signals.specs.declared.Answer.{Answer}
+use Rattle.signals.specs.declared.Answer.the-variants.{Accepted as accepted, Missed as missed, Refused as refused}
+use Rattle.signals.specs.declared.Signals.{Signals}
+use Rattle.signals.specs.declared.Updated.{Updated}
+
+abbrev pub signalsWith : States → ℕ → Signals
+signalsWith states misses = record { states = states; misses = misses }
+
+-- S-15, S-16: the first two misses in a row keep the states; the third and later make every signal silent
+-- S-18: the miss count stops at 3
+unfoldable pub missedBy : Signals → Signals
+missedBy signals =
+    let misses = min 3 (signals .misses + 1) in
+    signalsWith (cond (ltb misses 3) (signals .states) silent) misses
+
+-- S-17: fresh is silent, with the miss count at 0
+unfoldable pub freshSignals : Signals
+freshSignals = signalsWith silent 0
+
+-- S-13, S-20: a refused telegram is a miss, and changes nothing else
+-- S-12, S-19: an accepted one gives every signal its own state, whatever it was before, and sets the count to 0
+abbrev pub afterReading : Signals → Verdict → States → Updated
+afterReading signals (Refused number) states = record { answer = refused number; signals = missedBy signals }
+afterReading signals Accepted states = record { answer = accepted; signals = signalsWith states 0 }
+
+-- M-1b, S-14: the answer to a call and the next record. A call with no telegram is a miss, and no refusal.
+unfoldable pub updateOf : Signals → Bool → List ℕ → Updated
+updateOf signals false telegram = record { answer = missed; signals = missedBy signals }
+updateOf signals true telegram = afterReading signals (readOf telegram .verdict) (readOf telegram .states)
+
+-- R-26: the record after these calls, the newest first, each with whether a telegram was present, and its bytes
+unfoldable pub updatedAll : List (Bool × List ℕ) → Signals
+updatedAll [] = freshSignals
+updatedAll ((present, telegram) ∷ earlier) = updateOf (updatedAll earlier) present telegram .signals

@@ -1,0 +1,29 @@
+-- `read`: a refusal that is not 0, or the states.
+use mathlib.Core.Path.{sym}
+use borrow.Author.Tests.{eq-eqb, ne-eqb}
+use Rattle.wire.specs.Verdicts.{verdictOf}
+use Rattle.train_telegram.specs.Readings.{readOf}
+use borrow.Author.Needs.{needs}
+use Rattle.train_telegram.proofs.read.Statement.{statement}
+use Rattle.train_telegram.proofs.read.Tie as tie
+
+refusal-of-requires : tie.Need-refusal-of-requires
+refusal-of-requires c κs = search needs
+
+silent-requires : tie.Need-silent-requires
+silent-requires c κs = search needs
+
+returns : tie.Need-returns
+unfolding readOf verdictOf
+returns c = simp (sym (c .before .before .refusal-of .ensures), ne-eqb _ _ (c .before .if1 .taken), c .silent .ensures)
+
+states-of-requires : tie.Need-states-of-requires
+states-of-requires c κs = search needs
+
+returns-2 : tie.Need-returns-2
+unfolding readOf verdictOf
+returns-2 c = simp (sym (c .before .before .refusal-of .ensures), eq-eqb _ _ (c .before .if1 .left), c .states-of .ensures)
+
+pub read-spec : {M : Type 1} → statement M
+read-spec =
+    tie.close (tie.spec refusal-of-requires silent-requires returns states-of-requires returns-2)
