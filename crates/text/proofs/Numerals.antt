@@ -1,5 +1,6 @@
--- A number in decimal is its last digit after the decimal of its tenth, or that digit alone.
-use Prim.Native.Nat.{ℕ, zero, suc, _+_, _/_, _%_, _<_, _≤_}
+-- A number in decimal is its last digit after the decimal of its tenth, or that digit alone; in hexadecimal it has as many digits as are
+-- asked for.
+use Prim.Native.Nat.{ℕ, zero, suc, _+_, _-_, _/_, _%_, _<_, _≤_}
 use mathlib.Core.Path.{_≡_, refl, ap, _∙_}
 use mathlib.Core.List.{[], _∷_, _++_}
 use lib.Dec.{ltb}
@@ -7,6 +8,7 @@ use native.Mathlib.Omega.{arith}
 use borrow.Author.Tests.{lt-ltb, le-ltb, ltb-false}
 use Rattle.kit.proofs.Cases.{on}
 use Rattle.text.specs.Decimals.{digit, digits, decimal}
+use Rattle.text.specs.Hexadecimals.{hexDigit, hexadecimal}
 
 -- as many digits as the number is large are always enough
 enough : (a b n : ℕ) → n ≤ a → n ≤ b → digits a n ≡ digits b n
@@ -26,3 +28,12 @@ decimal-one n p =
 pub decimal-more : (n : ℕ) → 10 ≤ n → decimal n ≡ decimal (n / 10) ++ digit n
 unfolding decimal digits
 decimal-more n p = enough n (suc n) n (omega arith) (omega arith) ∙ rw (le-ltb n 10 p) (ap (λ l. l ++ digit n) (enough n (n / 10) (n / 10) (omega arith) (omega arith)))
+
+pub hexadecimal-none : (n : ℕ) → hexadecimal 0 n ≡ []
+unfolding hexadecimal
+hexadecimal-none n = refl
+
+pub hexadecimal-more : (k n : ℕ) → 1 ≤ k → hexadecimal k n ≡ hexadecimal (k - 1) (n / 16) ++ (hexDigit (n % 16) ∷ [])
+unfolding hexadecimal
+hexadecimal-more zero n p = absurd (omega arith)
+hexadecimal-more (suc k) n p = let e : k ≡ suc k - 1 = omega arith in ap (λ j. hexadecimal j (n / 16) ++ (hexDigit (n % 16) ∷ [])) e
