@@ -1,11 +1,108 @@
--- Laws of the codes: which state a number, a pair of bits or a word of sixteen of them has.
-use Prim.Native.Nat.{ℕ, _+_, _<_}
-use mathlib.Core.Path.{_≡_}
+-- Each state comes from exactly its code (M-2c, M-2e): the telegram's states show it, signal by signal.
+use Prim.Native.Nat.{ℕ, zero, suc, _%_, _<_, _≤_}
+use mathlib.Core.Bool.{Bool, true, false}
+use mathlib.Core.List.{List}
+use mathlib.Core.Logic.{_↔_}
+use mathlib.Core.Path.{_≡_, refl, sym, ap, _∙_, subst}
+use lib.Dec.{ltb}
 use lib.ListN.{length, getD}
-use Rattle.kit.specs.Bytes.{bit}
+use native.Mathlib.Omega.{arith}
+use borrow.Author.Tests.{ne-eqb, ltb-true, ltb-false}
+use Rattle.kit.proofs.Cases.{on}
+use Rattle.kit.specs.Bytes.{bit, wordAt, longAt}
+use Rattle.kit.specs.Ladder.{ladder}
 use Rattle.kit.proofs.Each.{length-one-each, one-each-at}
-use Rattle.train_telegram.specs.States.{isolationOf, systemWith, nationalOf}
+use Rattle.train_telegram.specs.Codes.{CabCode, BrakeCode, IsolationCode, TractionCode, Shows}
+use Rattle.train_telegram.specs.States.{cabOf, brakeOf, isolationOf, systemWith, nationalOf, statesOf}
+use Rattle.train_telegram.specs.declared.states.Brake.{Brake}
+use Rattle.train_telegram.specs.declared.states.Brake.the-variants as Brake′
+use Rattle.train_telegram.specs.declared.states.Cab.{Cab}
+use Rattle.train_telegram.specs.declared.states.Cab.the-variants as Cab′
+use Rattle.train_telegram.specs.declared.states.Isolation.{Isolation}
+use Rattle.train_telegram.specs.declared.states.Isolation.the-variants as Isolation′
 use Rattle.train_telegram.specs.declared.states.National.{National}
+use Rattle.train_telegram.specs.declared.states.Traction.{Traction}
+use Rattle.train_telegram.specs.declared.states.Traction.the-variants as Traction′
+
+-- a code that only one state has: where the state's own code holds and a code gives one state alone, that state is the code's
+exactly : {State : Type 0} (Code : State → Type 0) (own : State) → Code own → ((state : State) → Code state → own ≡ state) → (state : State) → (own ≡ state) ↔ Code state
+exactly Code own holds one state = (λ e. subst Code e holds, one state)
+
+-- S-09
+pub cab-exactly : (a b : Bool) (state : Cab) → (cabOf a b ≡ state) ↔ CabCode state a b
+cab-exactly a b = exactly (λ state. CabCode state a b) (cabOf a b) (own a b) (one a b)
+  where
+    own : (a b : Bool) → CabCode (cabOf a b) a b
+    own false false = (refl, refl)
+    own true false = (refl, refl)
+    own false true = (refl, refl)
+    own true true = (refl, refl)
+
+    one : (a b : Bool) (state : Cab) → CabCode state a b → cabOf a b ≡ state
+    one a b Cab′.None (p, q) = rw (p, q) refl
+    one a b Cab′.A (p, q) = rw (p, q) refl
+    one a b Cab′.B (p, q) = rw (p, q) refl
+    one a b Cab′.Invalid (p, q) = rw (p, q) refl
+    one a b Cab′.Silent code = absurd code
+
+-- S-10
+brake-invalid : (number : ℕ) → 4 ≤ number → brakeOf number ≡ Brake′.Invalid
+unfolding brakeOf ladder
+brake-invalid number p =
+    rw (ne-eqb number 0 (λ e. omega arith), ne-eqb number 1 (λ e. omega arith), ne-eqb number 2 (λ e. omega arith), ne-eqb number 3 (λ e. omega arith)) refl
+
+brake-own : (number : ℕ) → BrakeCode (brakeOf number) number
+unfolding brakeOf ladder
+brake-own number =
+    on (ltb number 4)
+    (λ e. below number (ltb-true number 4 e))
+    (λ e. let p : 4 ≤ number = omega (arith, ltb-false number 4 e) in subst (λ state. BrakeCode state number) (sym (brake-invalid number p)) p)
+  where
+    below : (n : ℕ) → n < 4 → BrakeCode (brakeOf n) n
+    below zero p = refl
+    below (suc zero) p = refl
+    below (suc (suc zero)) p = refl
+    below (suc (suc (suc zero))) p = refl
+    below (suc (suc (suc (suc n)))) p = absurd (omega arith)
+
+brake-one : (number : ℕ) (state : Brake) → BrakeCode state number → brakeOf number ≡ state
+unfolding brakeOf ladder
+brake-one number Brake′.PassengerInP e = ap brakeOf e
+brake-one number Brake′.FreightInP e = ap brakeOf e
+brake-one number Brake′.FreightInG e = ap brakeOf e
+brake-one number Brake′.Unknown e = ap brakeOf e
+brake-one number Brake′.Invalid p = brake-invalid number p
+brake-one number Brake′.Silent code = absurd code
+
+pub brake-exactly : (number : ℕ) (state : Brake) → (brakeOf number ≡ state) ↔ BrakeCode state number
+brake-exactly number = exactly (λ state. BrakeCode state number) (brakeOf number) (brake-own number) (brake-one number)
+
+-- S-11
+pub isolation-exactly : (isolated inverse : Bool) (state : Isolation) → (isolationOf isolated inverse ≡ state) ↔ IsolationCode state isolated inverse
+isolation-exactly isolated inverse = exactly (λ state. IsolationCode state isolated inverse) (isolationOf isolated inverse) (own isolated inverse) (one isolated inverse)
+  where
+    own : (a b : Bool) → IsolationCode (isolationOf a b) a b
+    own false false = refl
+    own true false = (refl, refl)
+    own false true = (refl, refl)
+    own true true = refl
+
+    one : (a b : Bool) (state : Isolation) → IsolationCode state a b → isolationOf a b ≡ state
+    one a b Isolation′.Isolated (p, q) = rw (p, q) refl
+    one a b Isolation′.NotIsolated (p, q) = rw (p, q) refl
+    one true b Isolation′.Invalid p = rw (← p) refl
+    one false b Isolation′.Invalid p = rw (← p) refl
+    one a b Isolation′.Silent code = absurd code
+
+-- S-07
+traction-exactly : (list : ℕ) (state : Traction) → (Traction′.Supported list ≡ state) ↔ TractionCode state list
+traction-exactly list = exactly (λ state. TractionCode state list) (Traction′.Supported list) refl one
+  where
+    one : (state : Traction) → TractionCode state list → Traction′.Supported list ≡ state
+    one (Traction′.Supported systems) e = ap Traction′.Supported e
+    one Traction′.Silent code = absurd code
+
+-- ---- the sixteen systems
 
 -- S-05, S-06: system i + 1 is by bit i of both words
 module _ (isolated inverse : ℕ) where
@@ -16,3 +113,18 @@ module _ (isolated inverse : ℕ) where
   pub national-at : (other : National) (i : ℕ) → i < 16 → getD (nationalOf isolated inverse) i other ≡ systemWith (isolationOf (bit i isolated) (bit i inverse))
   unfolding nationalOf
   national-at other i p = one-each-at (λ j. systemWith (isolationOf (bit j isolated) (bit j inverse))) 16 other i p
+
+-- ---- the telegram
+
+-- M-2c, M-2e, S-12: the states that a telegram says are those of its codes
+pub states-show : (t : List ℕ) → Shows (statesOf t) t
+unfolding statesOf
+states-show t =
+    record {
+      cab = cab-exactly (bit 1 (getD t 1 0)) (bit 0 (getD t 1 0));
+      brake = brake-exactly (getD t 2 0 % 8);
+      national = λ other i p state.
+          subst (λ (system : National). (system .isolation ≡ state) ↔ IsolationCode state (bit i (wordAt t 3)) (bit i (wordAt t 5))) (sym (national-at (wordAt t 3) (wordAt t 5) other i p))
+          (isolation-exactly (bit i (wordAt t 3)) (bit i (wordAt t 5)) state);
+      traction = traction-exactly (longAt t 7);
+    }

@@ -2,7 +2,7 @@
 use mathlib.Core.Path.{sym}
 use borrow.Author.Tests.{eq-eqb, ne-eqb}
 use Rattle.wire.specs.Verdicts.{verdictOf}
-use Rattle.train_telegram.specs.Readings.{readOf}
+use Rattle.train_telegram.proofs.Refusals.{read-refused, read-accepted}
 use borrow.Author.Needs.{needs}
 use Rattle.train_telegram.proofs.read.Statement.{statement}
 use Rattle.train_telegram.proofs.read.Tie as tie
@@ -14,15 +14,13 @@ silent-requires : tie.Need-silent-requires
 silent-requires c κs = search needs
 
 returns : tie.Need-returns
-unfolding readOf verdictOf
-returns c = simp (sym (c .before .before .refusal-of .ensures), ne-eqb _ _ (c .before .if1 .taken), c .silent .ensures)
+returns c = simp (c .silent .ensures) (sym (read-refused (c .before .before .before .before .args .telegram .now) _ (c .before .before .refusal-of .ensures) (c .before .if1 .taken)))
 
 states-of-requires : tie.Need-states-of-requires
 states-of-requires c κs = search needs
 
 returns-2 : tie.Need-returns-2
-unfolding readOf verdictOf
-returns-2 c = simp (sym (c .before .before .refusal-of .ensures), eq-eqb _ _ (c .before .if1 .left), c .states-of .ensures)
+returns-2 c = simp (c .states-of .ensures) (sym (read-accepted (c .before .before .before .before .args .telegram .now) _ (c .before .before .refusal-of .ensures) (c .before .if1 .left)))
 
 pub read-spec : {M : Type 1} → statement M
 read-spec =

@@ -1,0 +1,45 @@
+-- Reading: each refusal is given exactly when its row holds and no earlier one does (R-22, R-23), and what stands beside it.
+use Prim.Native.Nat.{ℕ}
+use mathlib.Core.List.{List}
+use mathlib.Core.Logic.{_↔_}
+use mathlib.Core.Path.{_≡_, refl, sym, ap, _∙_}
+use native.Mathlib.Omega.{arith}
+use borrow.Author.Tests.{eq-eqb, ne-eqb}
+use Rattle.kit.specs.Ladder.{Decides, Silent, Numbered}
+use Rattle.wire.specs.declared.verdicts.Verdict.the-variants.{Accepted, Refused}
+use Rattle.wire.proofs.Answers.{verdict-accepted, verdict-refused, verdict-number, refused-when, accepted-when}
+use Rattle.train_telegram.specs.Readings.{trainRows, trainRefusal, readOf}
+use Rattle.train_telegram.specs.States.{statesOf, silent}
+use Rattle.train_telegram.specs.declared.Reading.{Reading}
+
+-- every answer of the ladder is a number of document 01, and so not 0
+pub train-numbered : (t : List ℕ) → Numbered (trainRows t)
+unfolding trainRows
+train-numbered t = (omega arith, (omega arith, (omega arith, tt)))
+
+-- the two ways of a reading: refused, with every signal silent beside it, or accepted
+module _ (t : List ℕ) (number : ℕ) (same : number ≡ trainRefusal t) where
+  pub read-refused : (number ≡ 0 → ⊥) → _≡_ {A = Reading} (readOf t) (record { verdict = Refused number; states = silent })
+  unfolding readOf
+  read-refused n = rw (← same, verdict-refused number n, ne-eqb number 0 n) refl
+
+  pub read-accepted : number ≡ 0 → _≡_ {A = Reading} (readOf t) (record { verdict = Accepted; states = statesOf t })
+  unfolding readOf
+  read-accepted e = rw (← same, verdict-accepted number e, eq-eqb number 0 e) refl
+
+module _ (t : List ℕ) where
+  pub reading-refused : (number : ℕ) → (readOf t .verdict ≡ Refused number) ↔ Decides (trainRows t) number
+  unfolding readOf
+  reading-refused = refused-when (trainRows t) (train-numbered t)
+
+  pub reading-accepted : (readOf t .verdict ≡ Accepted) ↔ Silent (trainRows t)
+  unfolding readOf
+  reading-accepted = accepted-when (trainRows t) (train-numbered t)
+
+  accepted-number : readOf t .verdict ≡ Accepted → trainRefusal t ≡ 0
+  unfolding readOf
+  accepted-number e = verdict-number Accepted e
+
+  -- what is accepted has the states of its codes
+  pub accepted-states : readOf t .verdict ≡ Accepted → readOf t .states ≡ statesOf t
+  accepted-states e = ap (λ (r : Reading). r .states) (read-accepted t (trainRefusal t) refl (accepted-number e))
