@@ -1,6 +1,6 @@
 -- Laws of `each`, for parts that are all of one size: how long it is, and which part an index lies in; and where each part is one
 -- element.
-use Prim.Native.Nat.{ℕ, zero, suc, _+_, _*_, _<_}
+use Prim.Native.Nat.{ℕ, zero, suc, _+_, _*_, _<_, _≤_}
 use mathlib.Core.Path.{_≡_, refl, sym, ap, _∙_}
 use mathlib.Core.List.{List, [], _∷_, _++_, append-nil, append-assoc}
 use lib.ListN.{length, getD, length-append, List·getD-append}
@@ -39,6 +39,12 @@ module _ {A : Type 0} (of : ℕ → List A) (size : ℕ) (sized : (i : ℕ) → 
       let f : k + 1 + j ≡ k + suc j = omega arith in
       ap (λ (x : ℕ). getD (of k ++ each of (k + 1) n) x other) e
       ∙ (getD-append-add (of k) (each of (k + 1) n) (j * size + r) other ∙ (each-at other (k + 1) n j r (omega arith) q ∙ ap (λ (x : ℕ). getD (of x) r other) f))
+
+-- parts that are at most so long
+pub length-each-most : {A : Type 0} (of : ℕ → List A) (most : ℕ) → ((i : ℕ) → length (of i) ≤ most) → (k n : ℕ) → length (each of k n) ≤ n * most
+unfolding each
+length-each-most of most short k zero = omega arith
+length-each-most of most short k (suc n) = omega (arith, length-append (of k) (each of (k + 1) n), short k, length-each-most of most short (k + 1) n, suc-mul n most)
 
 -- one element for each thing: element j is that of thing j
 module _ {A : Type 0} (of : ℕ → A) (n : ℕ) where

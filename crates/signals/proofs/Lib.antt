@@ -1,2 +1,4 @@
+pub mod History
 pub mod Missing
+pub mod Promises
 pub mod Updating

@@ -38,7 +38,8 @@ unfoldable pub updateOf : Signals → Bool → List ℕ → Updated
 updateOf signals false telegram = record { answer = missed; signals = missedBy signals }
 updateOf signals true telegram = afterReading signals (readOf telegram .verdict) (readOf telegram .states)
 
--- R-26: the record after these calls, the newest first, each with whether a telegram was present, and its bytes
-unfoldable pub updatedAll : List (Bool × List ℕ) → Signals
-updatedAll [] = freshSignals
-updatedAll ((present, telegram) ∷ earlier) = updateOf (updatedAll earlier) present telegram .signals
+-- C-12: the number of a refusal, and 0 where nothing is refused
+abbrev pub numberOf : Answer → ℕ
+numberOf accepted = 0
+numberOf missed = 0
+numberOf (refused number) = number

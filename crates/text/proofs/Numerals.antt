@@ -1,11 +1,12 @@
 -- A number in decimal is its last digit after the decimal of its tenth, or that digit alone; in hexadecimal it has as many digits as are
 -- asked for.
 use Prim.Native.Nat.{ℕ, zero, suc, _+_, _-_, _/_, _%_, _<_, _≤_}
-use mathlib.Core.Path.{_≡_, refl, ap, _∙_}
+use mathlib.Core.Path.{_≡_, refl, sym, ap, _∙_, subst}
 use mathlib.Core.List.{[], _∷_, _++_}
 use lib.Dec.{ltb}
+use lib.ListN.{length, length-append}
 use native.Mathlib.Omega.{arith}
-use borrow.Author.Tests.{lt-ltb, le-ltb, ltb-false}
+use borrow.Author.Tests.{lt-ltb, le-ltb, ltb-true, ltb-false}
 use Rattle.kit.proofs.Cases.{on}
 use Rattle.text.specs.Decimals.{digit, digits, decimal}
 use Rattle.text.specs.Hexadecimals.{hexDigit, hexadecimal}
@@ -37,3 +38,20 @@ pub hexadecimal-more : (k n : ℕ) → 1 ≤ k → hexadecimal k n ≡ hexadecim
 unfolding hexadecimal
 hexadecimal-more zero n p = absurd (omega arith)
 hexadecimal-more (suc k) n p = let e : k ≡ suc k - 1 = omega arith in ap (λ j. hexadecimal j (n / 16) ++ (hexDigit (n % 16) ∷ [])) e
+
+-- ---- how long they are
+
+pub hexadecimal-long : (k n : ℕ) → length (hexadecimal k n) ≡ k
+unfolding hexadecimal
+hexadecimal-long zero n = refl
+hexadecimal-long (suc k) n = omega (arith, length-append (hexadecimal k (n / 16)) (hexDigit (n % 16) ∷ []), hexadecimal-long k (n / 16))
+
+decimal-tenth : (n k : ℕ) → length (decimal (n / 10)) ≤ k → 1 ≤ k → length (decimal n) ≤ k + 1
+decimal-tenth n k p q =
+    on (ltb n 10)
+    (λ e. subst (λ l. length l ≤ k + 1) (sym (decimal-one n (ltb-true n 10 e))) (omega arith))
+    (λ e. subst (λ l. length l ≤ k + 1) (sym (decimal-more n (omega (arith, ltb-false n 10 e)))) (omega (arith, length-append (decimal (n / 10)) (digit n))))
+
+-- a byte has at most three digits
+pub decimal-byte : (n : ℕ) → n < 256 → length (decimal n) ≤ 3
+decimal-byte n p = decimal-tenth n 2 (decimal-tenth (n / 10) 1 (subst (λ l. length l ≤ 1) (sym (decimal-one (n / 10 / 10) (omega arith))) (omega arith)) (omega arith)) (omega arith)

@@ -1,0 +1,84 @@
+-- Every line has room in 256 bytes, so that the program's buffer cuts none off.
+use Prim.Native.Nat.{ℕ, _+_, _<_, _≤_}
+use mathlib.Core.List.{List, [], _∷_, _++_}
+use mathlib.Core.Path.{_≡_}
+use lib.ListN.{length, length-append, getD}
+use native.Mathlib.Omega.{arith}
+use Rattle.kit.specs.Each.{each}
+use Rattle.kit.proofs.Each.{length-each-most}
+use Rattle.text.specs.Decimals.{decimal}
+use Rattle.text.proofs.Numerals.{decimal-byte, hexadecimal-long}
+use Rattle.train_telegram.specs.States.{systemWith}
+use Rattle.train_telegram.specs.declared.states.Brake.{Brake}
+use Rattle.train_telegram.specs.declared.states.Brake.the-variants as Brake′
+use Rattle.train_telegram.specs.declared.states.Cab.{Cab}
+use Rattle.train_telegram.specs.declared.states.Cab.the-variants as Cab′
+use Rattle.train_telegram.specs.declared.states.Isolation.{Isolation}
+use Rattle.train_telegram.specs.declared.states.Isolation.the-variants as Isolation′
+use Rattle.train_telegram.specs.declared.states.National.{National}
+use Rattle.train_telegram.specs.declared.states.States.{States}
+use Rattle.train_telegram.specs.declared.states.Traction.{Traction}
+use Rattle.train_telegram.specs.declared.states.Traction.the-variants as Traction′
+use Rattle.signals.specs.Signals.{numberOf}
+use Rattle.signals.specs.declared.Answer.{Answer}
+use Rattle.signals.specs.declared.Answer.the-variants.{Accepted, Missed, Refused}
+use Rattle.signals.specs.declared.Updated.{Updated}
+use Rattle.signals_output.specs.Lines.{refused, answerWords, missesWord, cabWord, brakeWord, isolationWord, systemWord, tractionWord, stateWords, lineOf}
+
+answer-short : (answer : Answer) → numberOf answer < 256 → length (answerWords answer) ≤ 11
+answer-short Accepted p = omega arith
+answer-short Missed p = omega arith
+answer-short (Refused number) p = omega (arith, length-append refused (decimal number), decimal-byte number p)
+
+cab-short : (cab : Cab) → length (cabWord cab) ≤ 8
+cab-short Cab′.Silent = omega arith
+cab-short Cab′.None = omega arith
+cab-short Cab′.A = omega arith
+cab-short Cab′.B = omega arith
+cab-short Cab′.Invalid = omega arith
+
+brake-short : (brake : Brake) → length (brakeWord brake) ≤ 12
+brake-short Brake′.Silent = omega arith
+brake-short Brake′.PassengerInP = omega arith
+brake-short Brake′.FreightInP = omega arith
+brake-short Brake′.FreightInG = omega arith
+brake-short Brake′.Unknown = omega arith
+brake-short Brake′.Invalid = omega arith
+
+isolation-short : (isolation : Isolation) → length (isolationWord isolation) ≤ 13
+isolation-short Isolation′.Silent = omega arith
+isolation-short Isolation′.Isolated = omega arith
+isolation-short Isolation′.NotIsolated = omega arith
+isolation-short Isolation′.Invalid = omega arith
+
+traction-short : (traction : Traction) → length (tractionWord traction) ≤ 9
+traction-short Traction′.Silent = omega arith
+traction-short (Traction′.Supported systems) = omega (arith, hexadecimal-long 8 systems)
+
+states-short : (states : States) → length (stateWords states) ≤ 237
+unfolding stateWords
+states-short states =
+    let systems = each (systemWord (states .national)) 0 16 in
+    omega (
+      arith,
+      length-append (cabWord (states .cab)) (brakeWord (states .brake) ++ (systems ++ tractionWord (states .traction))),
+      length-append (brakeWord (states .brake)) (systems ++ tractionWord (states .traction)),
+      length-append systems (tractionWord (states .traction)),
+      cab-short (states .cab),
+      brake-short (states .brake),
+      length-each-most (systemWord (states .national)) 13 (λ i. isolation-short (getD (states .national) i (systemWith Isolation′.Silent) .isolation)) 0 16,
+      traction-short (states .traction),
+    )
+
+pub line-short : (updated : Updated) → numberOf (updated .answer) < 256 → updated .signals .misses < 256 → length (lineOf updated) ≤ 256
+unfolding lineOf
+line-short updated number misses =
+    omega (
+      arith,
+      length-append (answerWords (updated .answer)) (missesWord (updated .signals .misses) ++ (stateWords (updated .signals .states) ++ (10 ∷ []))),
+      length-append (missesWord (updated .signals .misses)) (stateWords (updated .signals .states) ++ (10 ∷ [])),
+      length-append (stateWords (updated .signals .states)) (10 ∷ []),
+      answer-short (updated .answer) number,
+      decimal-byte (updated .signals .misses) misses,
+      states-short (updated .signals .states),
+    )
