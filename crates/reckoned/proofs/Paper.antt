@@ -17,7 +17,11 @@ use Rattle.numbers.specs.Numbers.{restsBy, isResting, hasNumber, nextNumber}
 use Rattle.desk.specs.Desks.{freshWith}
 use Rattle.desk.specs.Runs.{run}
 use Rattle.desk.specs.Steps.{keptPlace, endedEntry, endedNumbers, seated, seatedAll, stepOf}
-use Rattle.reckoned.specs.Reckoned.{Row, paper, short-rows, p5-wrap, order, orders, wholly-new, one-stays, empty, numbers, from, alone, refusal, to-255, before-the-wrap}
+use Rattle.wire.specs.Verdicts.{verdictOf}
+use Rattle.train_telegram.specs.Readings.{restSet, zeroBitSet, trainRows, readOf}
+use Rattle.train_telegram.specs.States.{brakeOf, nationalOf, statesOf}
+use Rattle.signals.specs.Signals.{updateOf}
+use Rattle.reckoned.specs.Reckoned.{Row, numbers-are, signals-are, received, showing, paper, short-rows, p5-wrap, order, orders, wholly-new, one-stays, empty, numbers, from, alone, refusal, to-255, before-the-wrap}
 
 -- whether two lists of numbers are the same, as a test that computes; and what the test says
 same : List ℕ → List ℕ → Bool
@@ -34,7 +38,8 @@ same-equal (x ∷ a) [] e = absurd (clash e refl)
 same-equal (x ∷ a) (y ∷ b) e = given (and-both (eqb x y) (same a b) e) (λ (here, there). ap₂ _∷_ (eqb-true x y here) (same-equal a b there))
 
 abbrev Tested : Row → Type 0
-Tested (defined, written) = same defined written ≡ true
+Tested (numbers-are defined written) = same defined written ≡ true
+Tested (signals-are defined written) = defined ≡ written
 
 abbrev AllTested : List Row → Type 0
 AllTested [] = Unit
@@ -42,8 +47,8 @@ AllTested (row ∷ rows) = Tested row × AllTested rows
 
 -- the checker computes the rows, the run of 8,197 steps by itself since one declaration may take so many steps and no more
 short-tested : AllTested short-rows
-unfolding same order orders wholly-new one-stays empty numbers from alone to-255 before-the-wrap refusal each ladder scan fold bodyOf secondHeld isConsidered gapOf orderAt listedAt placeOf listRows restsBy isResting hasNumber nextNumber freshWith run keptPlace endedEntry endedNumbers seated seatedAll stepOf
-short-tested = (refl, (refl, (refl, (refl, (refl, (refl, (refl, (refl, (refl, tt)))))))))
+unfolding same order orders wholly-new one-stays empty numbers from alone to-255 before-the-wrap refusal each ladder scan fold bodyOf secondHeld isConsidered gapOf orderAt listedAt placeOf listRows restsBy isResting hasNumber nextNumber freshWith run keptPlace endedEntry endedNumbers seated seatedAll stepOf received showing updateOf readOf trainRows zeroBitSet restSet verdictOf statesOf nationalOf brakeOf
+short-tested = (refl, (refl, (refl, (refl, (refl, (refl, (refl, (refl, (refl, (refl, (refl, (refl, tt))))))))))))
 
 wrap-tested : Tested p5-wrap
 unfolding same order orders wholly-new one-stays empty numbers from alone to-255 before-the-wrap refusal each ladder scan fold bodyOf secondHeld isConsidered gapOf orderAt listedAt placeOf listRows restsBy isResting hasNumber nextNumber freshWith run keptPlace endedEntry endedNumbers seated seatedAll stepOf
@@ -51,14 +56,23 @@ wrap-tested = refl
 
 -- ---- the theorem
 
--- every row holds: what the definitions give is what the paper says
+-- what the definitions give is what the paper says
+abbrev pub Holds : Row → Type 0
+Holds (numbers-are defined written) = defined ≡ written
+Holds (signals-are defined written) = defined ≡ written
+
+holds : (row : Row) → Tested row → Holds row
+holds (numbers-are defined written) t = same-equal defined written t
+holds (signals-are defined written) t = t
+
+-- every row holds
 abbrev pub AllHold : List Row → Type 0
 AllHold [] = Unit
-AllHold ((defined, written) ∷ rows) = (defined ≡ written) × AllHold rows
+AllHold (row ∷ rows) = Holds row × AllHold rows
 
 all-hold : (rows : List Row) → AllTested rows → AllHold rows
 all-hold [] t = tt
-all-hold ((defined, written) ∷ rows) (t, ts) = (same-equal defined written t, all-hold rows ts)
+all-hold (row ∷ rows) (t, ts) = (holds row t, all-hold rows ts)
 
 -- C-10: one theorem for the table
 pub paper-holds : AllHold paper

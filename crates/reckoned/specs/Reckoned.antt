@@ -1,5 +1,6 @@
 -- "Reckoned by hand": the cases of document 01 as rows of one table, each what the definitions give beside what the paper says.
 use Prim.Native.Nat.{ℕ, zero, suc, _+_, _*_, _/_, _%_}
+use mathlib.Core.Bool.{true}
 use mathlib.Core.List.{List, [], _∷_, _++_, map}
 use lib.ListN.{replicate}
 use Rattle.kit.specs.Each.{each}
@@ -8,6 +9,19 @@ use Rattle.orders.specs.Orders.{listRefusal}
 use Rattle.orders.specs.declared.Place.{Place}
 use Rattle.desk.specs.Desks.{rest, freshDesk}
 use Rattle.desk.specs.Runs.{run}
+use Rattle.train_telegram.specs.States.{systemWith}
+use Rattle.train_telegram.specs.declared.states.Brake.{Brake}
+use Rattle.train_telegram.specs.declared.states.Brake.the-variants.{PassengerInP, Unknown}
+use Rattle.train_telegram.specs.declared.states.Brake.the-variants as Brake′
+use Rattle.train_telegram.specs.declared.states.Cab.{Cab}
+use Rattle.train_telegram.specs.declared.states.Cab.the-variants.{None, A}
+use Rattle.train_telegram.specs.declared.states.Cab.the-variants as Cab′
+use Rattle.train_telegram.specs.declared.states.Isolation.the-variants.{Isolated, NotIsolated}
+use Rattle.train_telegram.specs.declared.states.National.{National}
+use Rattle.train_telegram.specs.declared.states.Traction.the-variants.{Supported}
+use Rattle.signals.specs.Signals.{signalsWith, freshSignals, updateOf}
+use Rattle.signals.specs.declared.Answer.the-variants.{Accepted}
+use Rattle.signals.specs.declared.Updated.{Updated}
 
 -- ---- lists of orders, all of type 1
 
@@ -60,31 +74,55 @@ to-255 = [] ∷ ((order 1 ++ orders 7 900) ∷ one-stays 13)
 unfoldable pub before-the-wrap : List (List ℕ)
 before-the-wrap = orders 15 900 ∷ wholly-new 12
 
+-- ---- telegrams from the train
+
+-- the answer to a telegram from the train, and the record after it, of a fresh record
+unfoldable pub received : List ℕ → Updated
+received telegram = updateOf freshSignals true telegram
+
+-- accepted, with these states
+unfoldable pub showing : Cab → Brake → List National → ℕ → Updated
+showing cab brake national systems =
+    record { answer = Accepted; signals = signalsWith (record { cab = cab; brake = brake; national = national; traction = Supported systems }) 0 }
+
+abbrev pub isolated : National
+isolated = systemWith Isolated
+
+abbrev pub notIsolated : National
+notIsolated = systemWith NotIsolated
+
 -- ---- the table
 
--- a row: what the definitions give, and what the paper says
-abbrev pub Row : Type 0
-Row = List ℕ × List ℕ
+-- a row: what the definitions give, and what the paper says; of numbers, or of a call that the record of signals answers
+pub data Row : Type 0 where
+  numbers-are : List ℕ → List ℕ → Row
+  signals-are : Updated → Updated → Row
 
 -- P5 after the wrap (A-05): number 1 ended in step 2, and in step 8,197 it is given
 abbrev pub p5-wrap : Row
-p5-wrap = (numbers (orders 1 1000 ∷ (empty 8183 ++ before-the-wrap)), alone 1)
+p5-wrap = numbers-are (numbers (orders 1 1000 ∷ (empty 8183 ++ before-the-wrap))) (alone 1)
 
 abbrev pub short-rows : List Row
 short-rows =
     -- P3: the gap from 8,190 to 3 is 5; from 0 to 8,191 it is 8,191
-    (gapOf 3 8190 ∷ [], 5 ∷ [])
-    ∷ (gapOf 8191 0 ∷ [], 8191 ∷ [])
+    numbers-are (gapOf 3 8190 ∷ []) (5 ∷ [])
+    ∷ numbers-are (gapOf 8191 0 ∷ []) (8191 ∷ [])
     -- P4: twenty wholly new orders every step: step 12 gives 221 to 240, step 13 gives 241 to 255 and then 1 to 5
-    ∷ (numbers (wholly-new 12), from 20 221)
-    ∷ (numbers (wholly-new 13), from 15 241 ++ from 5 1)
+    ∷ numbers-are (numbers (wholly-new 12)) (from 20 221)
+    ∷ numbers-are (numbers (wholly-new 13)) (from 15 241 ++ from 5 1)
     -- P5: in step f + 7 number 1 is passed over; if the order comes in step f + 8 instead, it gets 1
-    ∷ (numbers (orders 1 1000 ∷ (empty 6 ++ to-255)), alone 2)
-    ∷ (numbers (orders 1 1000 ∷ (empty 7 ++ to-255)), alone 1)
+    ∷ numbers-are (numbers (orders 1 1000 ∷ (empty 6 ++ to-255))) (alone 2)
+    ∷ numbers-are (numbers (orders 1 1000 ∷ (empty 7 ++ to-255))) (alone 1)
     -- P6: length 205: refusal 1; length 210: refusal 2; length 0: accepted
-    ∷ (refusal (replicate 205 0), 1 ∷ [])
-    ∷ (refusal (replicate 210 0), 2 ∷ [])
-    ∷ (refusal [], 0 ∷ [])
+    ∷ numbers-are (refusal (replicate 205 0)) (1 ∷ [])
+    ∷ numbers-are (refusal (replicate 210 0)) (2 ∷ [])
+    ∷ numbers-are (refusal []) (0 ∷ [])
+    -- P7: cab A, brake position unknown, systems 1 and 16 isolated, the rest not, traction systems 1 and 2 (bits 1 and 2)
+    ∷ signals-are (received (1 ∷ 2 ∷ 3 ∷ 0x80 ∷ 1 ∷ 0x7F ∷ 0xFE ∷ 0 ∷ 0 ∷ 0 ∷ 6 ∷ replicate 15 0))
+    (showing A Unknown (isolated ∷ (replicate 14 notIsolated ++ (isolated ∷ []))) (2 + 4))
+    -- P8: cab bits 11: invalid; brake position 4: invalid. The other signals have their own states.
+    ∷ signals-are (received (1 ∷ 3 ∷ 0 ∷ 0 ∷ 0 ∷ 0xFF ∷ 0xFF ∷ replicate 19 0)) (showing Cab′.Invalid PassengerInP (replicate 16 notIsolated) 0)
+    ∷ signals-are (received (1 ∷ 0 ∷ 4 ∷ 0 ∷ 0 ∷ 0xFF ∷ 0xFF ∷ replicate 19 0)) (showing None Brake′.Invalid (replicate 16 notIsolated) 0)
     ∷ []
 
 -- C-10: all of them
