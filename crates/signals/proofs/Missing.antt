@@ -1,8 +1,8 @@
 -- Laws of a miss: the first two in a row keep the states, the third and later do not.
-use Prim.Native.Nat.{ℕ, _+_, _<_, _≤_, min}
-use mathlib.Core.Path.{_≡_, refl, ap}
+use Prim.Native.Nat.{_+_, _<_, _≤_, min}
+use mathlib.Core.Path.{_≡_, refl}
 use native.Mathlib.Omega.{arith}
-use borrow.Author.Tests.{lt-ltb, le-ltb}
+use borrow.Author.Tests.{lt-ltb}
 use Rattle.train_telegram.specs.States.{silent}
 use Rattle.signals.specs.Signals.{signalsWith, missedBy}
 use Rattle.signals.specs.declared.Signals.{Signals}

@@ -14,7 +14,7 @@ use Rattle.train_telegram.specs.States.{statesOf}
 use Rattle.train_telegram.specs.declared.states.States.{States}
 use Rattle.train_telegram.proofs.Codes.{states-show}
 use Rattle.train_telegram.proofs.Refusals.{reading-refused, reading-accepted, accepted-states}
-use Rattle.signals.specs.Signals.{signalsWith, missedBy, afterReading, updateOf, numberOf}
+use Rattle.signals.specs.Signals.{signalsWith, missedBy, updateOf, numberOf}
 use Rattle.signals.specs.declared.Answer.{Answer}
 use Rattle.signals.specs.declared.Answer.the-variants.{Accepted as accepted, Missed as missed, Refused as refused}
 use Rattle.signals.specs.declared.Signals.{Signals}
@@ -39,14 +39,16 @@ module _ (signals : Signals) (telegram : List ℕ) where
 
   -- R-22, R-23: a telegram is refused under the number of the first row that holds, and never else
   pub refused-exactly : (number : ℕ) → (answer ≡ refused number) ↔ Decides (trainRows telegram) number
-  refused-exactly number =
-      (λ a. reading-refused telegram number .0 (told (readOf telegram .verdict) refl .0 number a),
-      λ d. ap (λ (u : Updated). u .answer) (update-refused signals telegram (readOf telegram) refl number (reading-refused telegram number .1 d)))
+  refused-exactly number = (
+    λ a. reading-refused telegram number .0 (told (readOf telegram .verdict) refl .0 number a),
+    λ d. ap (λ (u : Updated). u .answer) (update-refused signals telegram (readOf telegram) refl number (reading-refused telegram number .1 d)),
+  )
 
   pub accepted-exactly : (answer ≡ accepted) ↔ Silent (trainRows telegram)
-  accepted-exactly =
-      (λ a. reading-accepted telegram .0 (told (readOf telegram .verdict) refl .1 a),
-      λ s. ap (λ (u : Updated). u .answer) (update-accepted signals telegram (readOf telegram) refl (reading-accepted telegram .1 s)))
+  accepted-exactly = (
+    λ a. reading-accepted telegram .0 (told (readOf telegram .verdict) refl .1 a),
+    λ s. ap (λ (u : Updated). u .answer) (update-accepted signals telegram (readOf telegram) refl (reading-accepted telegram .1 s)),
+  )
 
   -- M-1f, S-20: a refused telegram is a miss like any other, and changes nothing else
   pub refused-misses : (number : ℕ) → answer ≡ refused number → updateOf signals true telegram .signals ≡ missedBy signals

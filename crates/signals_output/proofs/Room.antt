@@ -1,7 +1,6 @@
 -- Every line has room in 256 bytes, so that the program's buffer cuts none off.
-use Prim.Native.Nat.{ℕ, _+_, _<_, _≤_}
-use mathlib.Core.List.{List, [], _∷_, _++_}
-use mathlib.Core.Path.{_≡_}
+use Prim.Native.Nat.{_+_, _<_, _≤_}
+use mathlib.Core.List.{[], _∷_, _++_}
 use lib.ListN.{length, length-append, getD}
 use native.Mathlib.Omega.{arith}
 use Rattle.kit.specs.Each.{each}
@@ -15,7 +14,6 @@ use Rattle.train_telegram.specs.declared.states.Cab.{Cab}
 use Rattle.train_telegram.specs.declared.states.Cab.the-variants as Cab′
 use Rattle.train_telegram.specs.declared.states.Isolation.{Isolation}
 use Rattle.train_telegram.specs.declared.states.Isolation.the-variants as Isolation′
-use Rattle.train_telegram.specs.declared.states.National.{National}
 use Rattle.train_telegram.specs.declared.states.States.{States}
 use Rattle.train_telegram.specs.declared.states.Traction.{Traction}
 use Rattle.train_telegram.specs.declared.states.Traction.the-variants as Traction′

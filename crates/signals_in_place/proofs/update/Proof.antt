@@ -1,6 +1,6 @@
--- `train::update_in_place` meets its contract: a walk of its MIR, by hand. The borrow is opened, the record is copied out of its cell whole, `update` is called by value on it and on a copy of the slice, the record that it returned is stored over the old one, and the borrow is closed at it. All that the proof knows of `update` is that it meets its contract.
--- Nothing here depends on what a record holds: the laws of the three declared types (`Signals`, `Updated`, `Answer`) come from the modules that `rattle check` makes of them.
--- Assumes nothing.
+-- `update`: a walk of its machine code, by hand. The borrow is opened, the record is copied out of its cell whole, `Signals::update` is
+-- called by value on it and on a copy of the slice, the record that it returned is stored over the old one, and the borrow is closed
+-- at it. Of `Signals::update` the walk knows its contract alone, so that it stays as it is when the rule changes.
 use mathlib.Core.Path.{_≡_, refl, ap}
 use mathlib.Core.Bool.{Bool}
 use Prim.Native.Nat.{ℕ}
@@ -34,8 +34,8 @@ use denote.Signature.{plain}
 use denote.Slice.{sliceVal, ShrSlice, slice-vals, shr-slice-tells, shr-slice-lawful, shr-slice-copy}
 use denote.Steps.{only, opens, closes, owned, peeks, heard, nothing}
 use denote.Struct.Steps.{spelt}
-use denote.Struct.Laws as LL
-use denote.Enum.Laws as EL
+use denote.Struct.Laws as StructLaws
+use denote.Enum.Laws as EnumLaws
 use denote.Triple.Statement.{Contract, Triple}
 use denote.Triple.Call.{calls-at}
 use denote.Triple.Clauses.{ensured, lasts}
@@ -48,130 +48,127 @@ use Rattle.signals.specs.Signals.{updateOf}
 use Rattle.signals.specs.declared.Signals.{Signals}
 use Rattle.signals.specs.declared.Updated.{Updated}
 use Rattle.signals.specs.declared.Answer.{Answer}
-use Rattle.signals.proofs.Signals as T
-use Rattle.signals.proofs.Signals.Laws as T′
-use Rattle.signals.proofs.Updated as U
-use Rattle.signals.proofs.Updated.Laws as U′
-use Rattle.signals.proofs.Answer as N
-use Rattle.signals.proofs.Answer.Laws as N′
+use Rattle.signals.proofs.Signals as Held
+use Rattle.signals.proofs.Signals.Laws as HeldLaws
+use Rattle.signals.proofs.Updated as Both
+use Rattle.signals.proofs.Updated.Laws as BothLaws
+use Rattle.signals.proofs.Answer as Said
+use Rattle.signals.proofs.Answer.Laws as SaidLaws
 use Rattle.signals.proofs.Signals.update as update
 use Rattle.signals.proofs.Signals.update.Symbol as update-def
 use Rattle.signals.proofs.Signals.update.Symbol.{name as #signals·Signals·update}
 use Rattle.signals.proofs.Signals.update.Met as update-thm
+use Rattle.signals_in_place.proofs.Machine.{held-values, answer-value, knows-answer, knows-held}
 use Rattle.signals_in_place.proofs.update.Key.{name as #signals-in-place·update}
 use Rattle.signals_in_place.proofs.update as here
 use Rattle.signals_in_place.proofs.update.Statement as stated
 use Rattle.signals_in_place.proofs.update.Code as code
 
+-- what is left of each parameter at the exit
 abbrev stayed : Stays (here.ended .signature .params) (here.ended .kept)
-stayed = (stay-ref (0 ∷ []) tt (plain (λ _. T.the-row)), (stay-none (λ _. bool) yes, (stay-none-slice (1 ∷ []) tt (plain (λ _. u8)) yes, tt)))
+stayed = (stay-ref (0 ∷ []) tt (plain (λ _. Held.the-row)), (stay-none (λ _. bool) yes, (stay-none-slice (1 ∷ []) tt (plain (λ _. u8)) yes, tt)))
 
 -- the contract that the proof cites
 abbrev Update : {M : Type 1} (𝓤 : URA M) (H : Heap 𝓤) (A : Atoms 𝓤) (mem : Memory → SProp 𝓤) (run : Routine → Fun 𝓤) → Contract 𝓤
 Update 𝓤 H A mem run = tripleOf 𝓤 H A update.signature (update.spec 𝓤 H A mem run)
 
--- the machine values of a record, and of an answer
-abbrev vals : Signals → List Val
-vals = LL.vals T.the-type T′.the-laws
-
-abbrev answer-val : Answer → Val
-answer-val = EL.val N.the-type N′.the-laws
-
--- what whoever holds the pair knows of its two fields
-is-answer : (r : Updated) (u : Val) → Is U.the-row r (u ∷ []) → Is N.the-row (r .answer) (answer-val (r .answer) ∷ [])
-is-answer r u is = LL.owed U.the-type U′.the-laws r _ is .0
-
-is-signals : (r : Updated) (u : Val) → Is U.the-row r (u ∷ []) → Is T.the-row (r .signals) (vals (r .signals))
-is-signals r u is = LL.owed U.the-type U′.the-laws r _ is .1 .0
-
-module _ {M : Type 1} (𝓤 : URA M) (H : Heap 𝓤) (A : Atoms 𝓤) (W : Given 𝓤 H A) (at-mem : Memory → SProp 𝓤) (run : Routine → Fun 𝓤) (κ κ′ : Lft) (q q′ : Share) (bounds : AllOutlive 2 (here.signature .outlives) (κ, (κ′, tt))) (b o : ℕ) (γ : GName) (h : Signals) (p : Bool) (s : RefT (List ℕ)) where
+module _ {M : Type 1} (𝓤 : URA M) (H : Heap 𝓤) (A : Atoms 𝓤) (W : Given 𝓤 H A) (at-mem : Memory → SProp 𝓤) (run : Routine → Fun 𝓤) (κ κ′ : Lft) (q q′ : Share) (bounds : AllOutlive 2 (here.signature .outlives) (κ, (κ′, tt))) (b o : ℕ) (γ : GName) (held : Signals) (present : Bool) (telegram : RefT (List ℕ)) where
   -- the slice's machine value
-  abbrev v : Val
-  v = sliceVal (s .ptr) (length (s .now))
+  abbrev slice : Val
+  slice = sliceVal (telegram .ptr) (length (telegram .now))
 
-  abbrev x : RefT Signals × (Bool × (RefT (List ℕ) × Unit {0}))
-  x = (record { ptr = (b, o); name = γ; now = h }, (p, (s, tt)))
+  -- the arguments, as they are meant and as the machine has them
+  abbrev args-here : RefT Signals × (Bool × (RefT (List ℕ) × Unit {0}))
+  args-here = (record { ptr = (b, o); name = γ; now = held }, (present, (telegram, tt)))
 
-  abbrev at : List Val × (List Val × (List Val × Unit {0}))
-  at = (vptr b o ∷ [], (vbool p ∷ [], (v ∷ [], tt)))
+  abbrev values : List Val × (List Val × (List Val × Unit {0}))
+  values = (vptr b o ∷ [], (vbool present ∷ [], (slice ∷ [], tt)))
 
   abbrev next : Updated
-  next = updateOf h p (s .now)
+  next = updateOf held present (telegram .now)
 
   abbrev Post : Val → SProp 𝓤
-  Post = walkOf 𝓤 H A here.ended stayed (here.clauses 𝓤 H A at-mem run) .post (((κ, (κ′, tt)), (q, (q′, tt)), bounds, x, at), tt)
+  Post = walkOf 𝓤 H A here.ended stayed (here.clauses 𝓤 H A at-mem run) .post (((κ, (κ′, tt)), (q, (q′, tt)), bounds, args-here, values), tt)
 
   -- what the slice owns: it is Copy, one goes to the callee and one stays for the exit
   abbrev Own : Fml
-  Own = ShrSlice (named 1) κ′ u8 .own s (v ∷ [])
+  Own = ShrSlice (named 1) κ′ u8 .own telegram (slice ∷ [])
 
   -- the call: what `update`'s triple binds outside, what it asks, and what is known of its result
   abbrev passed : Vals update.signature (κ′, tt)
-  passed = (vals h, (vbool p ∷ [], (v ∷ [], tt)))
+  passed = (held-values held, (vbool present ∷ [], (slice ∷ [], tt)))
 
   abbrev to : Update 𝓤 H A at-mem run .Ghost
-  to = (((κ′, tt), (q′, tt), tt, (h, (p, (s, tt))), passed), tt)
+  to = (((κ′, tt), (q′, tt), tt, (held, (present, (telegram, tt))), passed), tt)
 
-  asked : Is T.the-row h (vals h) → ent 𝓤 (⋆ 𝓤 H A ((‵ (flft κ′ q′) ⊛ ‵ ftrue) ∷ ‵ Own ∷ [])) (Update 𝓤 H A at-mem run .pre to)
+  asked : Is Held.the-row held (held-values held) → ent 𝓤 (⋆ 𝓤 H A ((‵ (flft κ′ q′) ⊛ ‵ ftrue) ∷ ‵ Own ∷ [])) (Update 𝓤 H A at-mem run .pre to)
   asked was =
-      qed W ((‵ (flft κ′ q′) ⊛ ‵ ftrue) ∷ ‵ Own ∷ []) ∵ nothing ! $ move ! (2 ∷ 0 ∷ []) $ fjoin ! $ owned ! bool (Is bool) (bool-makes 𝓤 H A W) p _ refl $ fjoin ! $
-      owned ! T.the-row (Is T.the-row) (LL.makes T.the-type T′.the-plain 𝓤 H A) h _ was $ fjoin ! $ move ! (1 ∷ 0 ∷ []) $ join ! $ frame ! $ done !
+      qed W ((‵ (flft κ′ q′) ⊛ ‵ ftrue) ∷ ‵ Own ∷ []) ∵ nothing ! $ move ! (2 ∷ 0 ∷ []) $ fjoin ! $ owned ! bool (Is bool) (bool-makes 𝓤 H A W) present _ refl $ fjoin ! $
+      owned ! Held.the-row (Is Held.the-row) (StructLaws.makes Held.the-type HeldLaws.the-plain 𝓤 H A) held _ was $ fjoin ! $ move ! (1 ∷ 0 ∷ []) $ join ! $ frame ! $ done !
 
-  said : (r : Updated) → ent 𝓤 (ensured 𝓤 H A update.ended (update.clauses 𝓤 H A at-mem run) (κ′, tt) (h, (p, (s, tt))) tt r) (fact 𝓤 (r ≡ next))
-  said r = exE 𝓤 _ (λ ws. snd∗ 𝓤 (sem 𝓤 H A (lasts update.ended (κ′, tt) (h, (p, (s, tt))) ws)) (fact 𝓤 (r ≡ next)))
+  said : (r : Updated) → ent 𝓤 (ensured 𝓤 H A update.ended (update.clauses 𝓤 H A at-mem run) (κ′, tt) (held, (present, (telegram, tt))) tt r) (fact 𝓤 (r ≡ next))
+  said r = exE 𝓤 _ (λ ws. snd∗ 𝓤 (sem 𝓤 H A (lasts update.ended (κ′, tt) (held, (present, (telegram, tt))) ws)) (fact 𝓤 (r ≡ next)))
 
-  exits : (r : Updated) → r ≡ next → Is N.the-row (r .answer) (answer-val (r .answer) ∷ [])
-      → ent 𝓤 (⋆ 𝓤 H A (‵ (fobs γ (T.the-row .coded .code (r .signals))) ∷ ‵ (fbor κ (Body (mem T.the-row) b o γ)) ∷ ‵ (flft κ q) ∷ (‵ (flft κ′ q′) ⊛ ‵ ftrue) ∷ ‵ Own ∷ [])) (Post (answer-val (r .answer)))
+  -- the exit: the answer and the record are those of the definition
+  exits : (r : Updated) → r ≡ next → Is Said.the-row (r .answer) (answer-value (r .answer) ∷ [])
+      → ent 𝓤 (⋆ 𝓤 H A (‵ (fobs γ (Held.the-row .coded .code (r .signals))) ∷ ‵ (fbor κ (Body (mem Held.the-row) b o γ)) ∷ ‵ (flft κ q) ∷ (‵ (flft κ′ q′) ⊛ ‵ ftrue) ∷ ‵ Own ∷ [])) (Post (answer-value (r .answer)))
   exits r e is =
-      qed W (‵ (fobs γ (T.the-row .coded .code (r .signals))) ∷ ‵ (fbor κ (Body (mem T.the-row) b o γ)) ∷ ‵ (flft κ q) ∷ (‵ (flft κ′ q′) ⊛ ‵ ftrue) ∷ ‵ Own ∷ []) ∵
-      suffices ! _ (ends-at 𝓤 H A here.ended stayed (here.clauses 𝓤 H A at-mem run) W (((κ, (κ′, tt)), (q, (q′, tt)), bounds, x, at), tt) (answer-val (r .answer)) (r .answer) (r .signals, (tt, (tt, tt))) (tt, (tt, (tt, tt)))) $
+      qed W (‵ (fobs γ (Held.the-row .coded .code (r .signals))) ∷ ‵ (fbor κ (Body (mem Held.the-row) b o γ)) ∷ ‵ (flft κ q) ∷ (‵ (flft κ′ q′) ⊛ ‵ ftrue) ∷ ‵ Own ∷ []) ∵
+      suffices ! _ (ends-at 𝓤 H A here.ended stayed (here.clauses 𝓤 H A at-mem run) W (((κ, (κ′, tt)), (q, (q′, tt)), bounds, args-here, values), tt) (answer-value (r .answer)) (r .answer) (r .signals, (tt, (tt, tt))) (tt, (tt, (tt, tt)))) $
       says ! (ap (λ (y : Updated). y .answer) e, ap (λ (y : Updated). y .signals) e) $ move ! (2 ∷ 3 ∷ []) $ join ! $
-      frame ! $ feqI ! (List Val) (vptr b o ∷ []) (vptr b o ∷ []) refl $ fjoin3 ! $ nothing ! $ move ! (2 ∷ 0 ∷ []) $ fjoin ! $ owned ! bool (Is bool) (bool-makes 𝓤 H A W) p _ refl $ fjoin ! $ move ! (1 ∷ 0 ∷ []) $ fjoin ! $
-      frame ! $ owned ! N.the-row (Is N.the-row) (EL.makes N.the-type N′.the-plain 𝓤 H A) (r .answer) _ is $ done !
+      frame ! $ feqI ! (List Val) (vptr b o ∷ []) (vptr b o ∷ []) refl $ fjoin3 ! $ nothing ! $ move ! (2 ∷ 0 ∷ []) $ fjoin ! $ owned ! bool (Is bool) (bool-makes 𝓤 H A W) present _ refl $ fjoin ! $ move ! (1 ∷ 0 ∷ []) $ fjoin ! $
+      frame ! $ owned ! Said.the-row (Is Said.the-row) (EnumLaws.makes Said.the-type SaidLaws.the-plain 𝓤 H A) (r .answer) _ is $ done !
 
   module _ (C : Calls 𝓤 H) (Λ : Loops 𝓤 H) (fm : FmC 𝓤 H (W .laws) C) (known : Triple 𝓤 (C #signals·Signals·update) (Update 𝓤 H A at-mem run)) where
-    walk : Is (ShrSlice (named 1) κ′ u8) s (v ∷ []) → ent 𝓤 (onEntry 𝓤 H A here.signature (κ, (κ′, tt)) (q, (q′, tt)) x at) (WpFn 𝓤 H C Λ code.function (vptr b o ∷ vbool p ∷ v ∷ []) Post)
+    walk : Is (ShrSlice (named 1) κ′ u8) telegram (slice ∷ []) → ent 𝓤 (onEntry 𝓤 H A here.signature (κ, (κ′, tt)) (q, (q′, tt)) args-here values) (WpFn 𝓤 H C Λ code.function (vptr b o ∷ vbool present ∷ slice ∷ []) Post)
     walk sl =
-        qed W ((‵ (flft κ q) ⊛ ‵ (flft κ′ q′) ⊛ ‵ ftrue) ∷ ‵ (owns (MutRef (named 0) κ T.the-row ∷ bool ∷ ShrSlice (named 1) κ′ u8 ∷ []) x at) ∷ []) ∵ enter ! C Λ code.function (vptr b o ∷ vbool p ∷ v ∷ []) _ $
+        qed W ((‵ (flft κ q) ⊛ ‵ (flft κ′ q′) ⊛ ‵ ftrue) ∷ ‵ (owns (MutRef (named 0) κ Held.the-row ∷ bool ∷ ShrSlice (named 1) κ′ u8 ∷ []) args-here values) ∷ []) ∵ enter ! C Λ code.function (vptr b o ∷ vbool present ∷ slice ∷ []) _ $
+        -- room for the locals, and the parameters in it
         alloc1 ! (λ l₀. alloc1 ! (λ l₁. alloc1 ! (λ l₂. alloc1 ! (λ l₃. alloc1 ! (λ l₄. alloc1 ! (λ l₅. alloc0 ! $ params1 ! $
-        pass1 ! (init ! 8 refl (tt, tt)) $ pass1 ! (init ! 6 refl (tt, tt)) $ pass1 ! (init ! 4 refl (shr-slice-lawful 𝓤 H A W (named 1) κ′ u8 .typed s (v ∷ []) sl .0)) $ pass0 ! $
+        pass1 ! (init ! 8 refl (tt, tt)) $ pass1 ! (init ! 6 refl (tt, tt)) $ pass1 ! (init ! 4 refl (shr-slice-lawful 𝓤 H A W (named 1) κ′ u8 .typed telegram (slice ∷ []) sl .0)) $ pass0 ! $
         -- [_5; …; _4; …; _3; …; _2; …; _1; …; _0; …; the tokens; what the parameters own]
         move ! (13 ∷ []) $ fsplit ! $ fsplit3 ! $ drop ! $ move ! (15 ∷ []) $ split ! $ move ! (4 ∷ []) $ fsplit ! $ drop ! $ fsplit ! $ move ! (1 ∷ []) $ drop ! $
         -- [the slice's; κ's token; κ′'s; obs; the borrow; _5; …]
-        move ! (3 ∷ 4 ∷ 1 ∷ []) $ opens ! tt T.the-row {h = h} b o (λ vs. spelt ! T.the-row (Is T.the-row) (shows 𝓤 H A T.the-row) vals (LL.tells T.the-type T′.the-laws) fullShare h vs b o $
-        move ! (1 ∷ []) $ peeks ! T.the-row (Is T.the-row) (shows 𝓤 H A T.the-row) h (vals h) (λ was. drop ! $
+        -- the borrow is opened, and what stands in its cell is the record
+        move ! (3 ∷ 4 ∷ 1 ∷ []) $ opens ! tt Held.the-row {h = held} b o (λ vs. spelt ! Held.the-row (Is Held.the-row) (shows 𝓤 H A Held.the-row) held-values (StructLaws.tells Held.the-type HeldLaws.the-laws) fullShare held vs b o $
+        move ! (1 ∷ []) $ peeks ! Held.the-row (Is Held.the-row) (shows 𝓤 H A Held.the-row) held (held-values held) (λ was. drop ! $
         -- [the record's cell; the open borrow; obs; auth; the slice's; κ′'s token; _5; …; _4; …; _3; …; _2; …; _1; …; room for _0; …]
-        assigns ! (of-opd ! (load ! (from ! (hop ! (look ! 14 refl) (stop !))) (look-raw ! 0 refl))) (from ! (stop !)) (init ! 6 refl (LL.lawful T.the-type T′.the-laws 𝓤 H A W .typed h _ was .0)) $
-        move ! (4 ∷ []) $ use1 W (‵ Own ⊛ ‵ Own) (shr-slice-copy 𝓤 H A W (named 1) κ′ u8 .twice s (v ∷ [])) $ split ! $ move ! (6 ∷ 0 ∷ []) $ use2 W (raw (Update 𝓤 H A at-mem run .pre to)) (asked was) $
+        -- `_5 = *held`
+        assigns ! (of-opd ! (load ! (from ! (hop ! (look ! 14 refl) (stop !))) (look-raw ! 0 refl))) (from ! (stop !)) (init ! 6 refl (StructLaws.lawful Held.the-type HeldLaws.the-laws 𝓤 H A W .typed held _ was .0)) $
+        move ! (4 ∷ []) $ use1 W (‵ Own ⊛ ‵ Own) (shr-slice-copy 𝓤 H A W (named 1) κ′ u8 .twice telegram (slice ∷ [])) $ split ! $ move ! (6 ∷ 0 ∷ []) $ use2 W (raw (Update 𝓤 H A at-mem run .pre to)) (asked was) $
         -- [what `update` asks; the slice's; the cell; the open borrow; obs; auth; _5; …]
+        -- `_4 = Signals::update(_5, present, telegram)`, of which only the contract is known
         calls-at ! fm (Update 𝓤 H A at-mem run) known to (and-then ! (load ! (from ! (stop !)) (look ! 6 refl)) (and-then ! (load ! (from ! (stop !)) (look ! 12 refl)) (and-then ! (load ! (from ! (stop !)) (look ! 10 refl)) (no-more !)))) (λ u.
-        use1 W (later (some (λ (r : Updated). ((‵ (flft κ′ q′) ⊛ ‵ ftrue) ⊛ ‵ (U.the-row .own r (u ∷ []))) ⊛ raw (ensured 𝓤 H A update.ended (update.clauses 𝓤 H A at-mem run) (κ′, tt) (h, (p, (s, tt))) tt r)))) (id⊢ 𝓤 _) $ await ! tt $ pick ! (λ r.
+        use1 W (later (some (λ (r : Updated). ((‵ (flft κ′ q′) ⊛ ‵ ftrue) ⊛ ‵ (Both.the-row .own r (u ∷ []))) ⊛ raw (ensured 𝓤 H A update.ended (update.clauses 𝓤 H A at-mem run) (κ′, tt) (held, (present, (telegram, tt))) tt r)))) (id⊢ 𝓤 _) $ await ! tt $ pick ! (λ r.
         split ! $ move ! (1 ∷ []) $ use1 W (raw (fact 𝓤 (r ≡ next))) (said r) $ heard ! (r ≡ next) (λ e. split ! $ move ! (1 ∷ []) $
         -- [the result; κ′'s token; the slice's; the cell; the open borrow; obs; auth; _5; …; room for _4; …]
-        peeks ! U.the-row (Is U.the-row) (shows 𝓤 H A U.the-row) r (u ∷ []) (λ is.
-        land ! (from ! (stop !)) (init ! 9 refl (LL.lawful U.the-type U′.the-laws 𝓤 H A W .typed r _ is .0)) $ drop ! $
-        rewrite ! 8 (λ (w : Val). ‵ (fat fullShare U′.mir l₄ 0 w)) (ap only (LL.tells U.the-type U′.the-laws r _ is)) refl $
+        peeks ! Both.the-row (Is Both.the-row) (shows 𝓤 H A Both.the-row) r (u ∷ []) (λ is.
+        land ! (from ! (stop !)) (init ! 9 refl (StructLaws.lawful Both.the-type BothLaws.the-laws 𝓤 H A W .typed r _ is .0)) $ drop ! $
+        rewrite ! 8 (λ (w : Val). ‵ (fat fullShare BothLaws.mir l₄ 0 w)) (ap only (StructLaws.tells Both.the-type BothLaws.the-laws r _ is)) refl $
         -- [κ′'s token; the slice's; the cell; the open borrow; obs; auth; _5; …; _4; …; _3; …; _2; …; _1; …; room for _0; …]
-        assigns ! (of-opd ! (load ! (from ! (fld ! refl (stop !))) (look-in ! 8 (sub ! 1 refl (whole !))))) (from ! (hop ! (look ! 14 refl) (stop !))) (store-raw ! 2 refl (LL.lawful T.the-type T′.the-laws 𝓤 H A W .typed (r .signals) _ (is-signals r u is) .0)) $
-        assigns ! (of-opd ! (load ! (from ! (fld ! refl (stop !))) (look-in ! 8 (sub ! 0 refl (whole !))))) (from ! (stop !)) (init ! 16 refl (EL.lawful N.the-type N′.the-laws 𝓤 H A W tt .typed (r .answer) _ (is-answer r u is) .0)) $
-        owned ! T.the-row (Is T.the-row) (LL.makes T.the-type T′.the-plain 𝓤 H A) (r .signals) _ (is-signals r u is) $
-        move ! (3 ∷ 0 ∷ 4 ∷ 5 ∷ 6 ∷ []) $ closes ! tt T.the-row (r .signals) (vals (r .signals)) b o $
+        -- `*held = _4.signals`, then `_0 = _4.answer`
+        assigns ! (of-opd ! (load ! (from ! (fld ! refl (stop !))) (look-in ! 8 (sub ! 1 refl (whole !))))) (from ! (hop ! (look ! 14 refl) (stop !))) (store-raw ! 2 refl (StructLaws.lawful Held.the-type HeldLaws.the-laws 𝓤 H A W .typed (r .signals) _ (knows-held r u is) .0)) $
+        assigns ! (of-opd ! (load ! (from ! (fld ! refl (stop !))) (look-in ! 8 (sub ! 0 refl (whole !))))) (from ! (stop !)) (init ! 16 refl (EnumLaws.lawful Said.the-type SaidLaws.the-laws 𝓤 H A W tt .typed (r .answer) _ (knows-answer r u is) .0)) $
+        owned ! Held.the-row (Is Held.the-row) (StructLaws.makes Held.the-type HeldLaws.the-plain 𝓤 H A) (r .signals) _ (knows-held r u is) $
+        -- the borrow is closed at the next record
+        move ! (3 ∷ 0 ∷ 4 ∷ 5 ∷ 6 ∷ []) $ closes ! tt Held.the-row (r .signals) (held-values (r .signals)) b o $
         -- [obs; the borrow; κ's token; κ′'s; the slice's; _5; …; _4; …; _3; …; _2; …; _1; …; _0; …]
+        -- the locals go
         returns ! (look ! 15 refl) $ forget ! 5 refl $ forget ! 7 refl $ forget ! 9 refl $ forget ! 11 refl $ forget ! 13 refl $ forget ! 15 refl $
         move ! (15 ∷ 16 ∷ []) $ free1 ! $ move ! (13 ∷ 14 ∷ []) $ free1 ! $ move ! (11 ∷ 12 ∷ []) $ free1 ! $ move ! (9 ∷ 10 ∷ []) $ free1 ! $ move ! (7 ∷ 8 ∷ []) $ free1 ! $ move ! (5 ∷ 6 ∷ []) $ free1 ! $ free0 ! $
-        by ! (exits r e (is-answer r u is))))))))))))))
+        by ! (exits r e (knows-answer r u is))))))))))))))
 
 module _ {M : Type 1} (𝓤 : URA M) (H : Heap 𝓤) (A : Atoms 𝓤) (W : Given 𝓤 H A) (mem : Memory → SProp 𝓤) (run : Routine → Fun 𝓤) where
   here-walks : (C : Calls 𝓤 H) (Λ : Loops 𝓤 H) → FmC 𝓤 H (W .laws) C → Triple 𝓤 (C #signals·Signals·update) (Update 𝓤 H A mem run)
       → Walks 𝓤 H A here.ended stayed (WpFn 𝓤 H C Λ code.function) (here.clauses 𝓤 H A mem run)
-  here-walks C Λ fm known = walked 𝓤 H A here.ended stayed (here.clauses 𝓤 H A mem run) (WpFn 𝓤 H C Λ code.function) (λ κs. (ptr-vals, (bool-vals, (slice-vals, tt)))) (λ κs. (mut-tells (named 0) (κs .0) T.the-row, (bool-tells, (shr-slice-tells (named 1) (κs .1 .0) u8, tt))))
+  here-walks C Λ fm known = walked 𝓤 H A here.ended stayed (here.clauses 𝓤 H A mem run) (WpFn 𝓤 H C Λ code.function) (λ κs. (ptr-vals, (bool-vals, (slice-vals, tt)))) (λ κs. (mut-tells (named 0) (κs .0) Held.the-row, (bool-tells, (shr-slice-tells (named 1) (κs .1 .0) u8, tt))))
       (λ κs qs bounds a g are. via 𝓤 _ (fst∗ 𝓤 _ (emp 𝓤)) (walk 𝓤 H A W mem run (κs .0) (κs .1 .0) (qs .0) (qs .1 .0) bounds (a .0 .ptr .0) (a .0 .ptr .1) (a .0 .name) (a .0 .now) (a .1 .0) (a .1 .1 .0) C Λ fm known (are .1 .1 .0)))
 
 here-meets : {M : Type 1} (𝓤 : URA M) (H : Heap 𝓤) (A : Atoms 𝓤) (W : Given 𝓤 H A) (mem : Memory → SProp 𝓤) (run : Routine → Fun 𝓤) (𝓣 : Tables 𝓤 H)
     → Triple 𝓤 (𝓣 .C #signals·Signals·update) (Update 𝓤 H A mem run)
     → Meets 𝓤 H A here.signature (WpFn 𝓤 H (𝓣 .C) (𝓣 .Λ) code.function) (here.spec 𝓤 H A mem run)
 here-meets 𝓤 H A W mem run 𝓣 known =
-    walk-meets 𝓤 H A here.ended stayed W (goes-ref 𝓤 H A W 2 0 tt (plain (λ _. T.the-row)), (goes-none 𝓤 H A W 2 (λ _. bool) yes (λ κs x f. refl), (goes-none-slice 𝓤 H A W 2 (1 ∷ []) tt (plain (λ _. u8)) yes, tt))) (here.clauses 𝓤 H A mem run)
+    walk-meets 𝓤 H A here.ended stayed W (goes-ref 𝓤 H A W 2 0 tt (plain (λ _. Held.the-row)), (goes-none 𝓤 H A W 2 (λ _. bool) yes (λ κs x f. refl), (goes-none-slice 𝓤 H A W 2 (1 ∷ []) tt (plain (λ _. u8)) yes, tt))) (here.clauses 𝓤 H A mem run)
     (WpFn 𝓤 H (𝓣 .C) (𝓣 .Λ) code.function) (WpFn-mono 𝓤 H (W .laws) 𝓣 code.function) (here-walks 𝓤 H A W mem run (𝓣 .C) (𝓣 .Λ) (fmOf 𝓤 H (W .laws) 𝓣) known)
 
 pub update-spec : {M : Type 1} → stated.statement M

@@ -3,7 +3,6 @@ use borrow.Author.Needs.{needs}
 use mathlib.Core.List.{[], _∷_, _++_}
 use mathlib.Core.Path.{ap, sym, _∙_}
 use Rattle.text.specs.Hexadecimals.{hexadecimal}
-use native.Mathlib.Omega.{arith}
 use Rattle.kit.proofs.Put.{poured-as, poured-then}
 use Rattle.text.proofs.Numerals.{hexadecimal-none, hexadecimal-more}
 use Prim.Native.Nat.{ℕ, _-_, _/_, _<_, _≤_}

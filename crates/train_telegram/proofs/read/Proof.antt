@@ -1,7 +1,5 @@
 -- `read`: a refusal that is not 0, or the states.
 use mathlib.Core.Path.{sym}
-use borrow.Author.Tests.{eq-eqb, ne-eqb}
-use Rattle.wire.specs.Verdicts.{verdictOf}
 use Rattle.train_telegram.proofs.Refusals.{read-refused, read-accepted}
 use borrow.Author.Needs.{needs}
 use Rattle.train_telegram.proofs.read.Statement.{statement}

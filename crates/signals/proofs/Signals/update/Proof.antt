@@ -1,10 +1,9 @@
 -- `Signals::update`: with no telegram, or by the verdict of reading.
 use mathlib.Core.Bool.{Bool}
-use mathlib.Core.Path.{_≡_, sym, ap, _∙_}
+use mathlib.Core.Path.{sym, ap, _∙_}
 use borrow.Author.Tests.{not-true, not-false}
 use Rattle.signals.specs.Signals.{updateOf}
 use Rattle.signals.specs.declared.Signals.{Signals}
-use Rattle.signals.specs.declared.Updated.{Updated}
 use Rattle.signals.specs.declared.Answer.the-variants.{Missed, Refused}
 use Rattle.signals.proofs.Updating.{update-missed, update-refused, update-accepted}
 use borrow.Author.Needs.{needs}

@@ -1,12 +1,10 @@
 -- `long_at`: past the end of the slice it is 0.
-use mathlib.Core.Path.{sym}
+use Prim.Native.Nat.{ℕ, _+_, _*_}
+use mathlib.Core.Path.{sym, ap₂}
 use Rattle.kit.proofs.Bytes.{long-past}
 use borrow.Author.Needs.{needs}
 use Rattle.wire.proofs.bytes.long_at.Statement.{statement}
 use Rattle.wire.proofs.bytes.long_at.Tie as tie
-use Rattle.wire.proofs.bytes.long_at.Reads as reads
-use Rattle.wire.proofs.bytes.long_at.Lts as lts
-use Rattle.wire.proofs.bytes.word_at.Reads as word-at-reads
 
 word-at-requires : tie.Need-word-at-requires
 word-at-requires c κs = search needs
@@ -30,7 +28,7 @@ add-result : tie.Need-add-result
 add-result c = search needs
 
 returns : tie.Need-returns
-returns c = search needs
+returns c = ap₂ (λ (high low : ℕ). high * 0x10000 + low) (c .before .word-at .ensures) (c .word-at2 .ensures)
 
 returns-2 : tie.Need-returns-2
 returns-2 c = sym (long-past (c .before .before .args .list .now) (c .before .before .args .i) (c .if1 .left))
