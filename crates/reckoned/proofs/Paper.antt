@@ -18,8 +18,10 @@ use Rattle.desk.specs.Desks.{freshWith}
 use Rattle.desk.specs.Runs.{run}
 use Rattle.desk.specs.Steps.{keptPlace, endedEntry, endedNumbers, seated, seatedAll, stepOf}
 use Rattle.wire.specs.Verdicts.{verdictOf}
-use Rattle.train_telegram.specs.Readings.{restSet, zeroBitSet, trainRows, readOf}
-use Rattle.train_telegram.specs.States.{brakeOf, nationalOf, statesOf}
+use Rattle.train_codes.specs.Codes.{brakeOf}
+use Rattle.train_codes.specs.Refusals.{restSet, zeroBitSet, trainRows}
+use Rattle.train_telegram.specs.Readings.{readOf}
+use Rattle.train_telegram.specs.States.{nationalOf, statesOf}
 use Rattle.signals.specs.Signals.{updateOf}
 use Rattle.reckoned.specs.Reckoned.{Row, numbers-are, signals-are, received, showing, paper, short-rows, p5-wrap, order, orders, wholly-new, one-stays, empty, numbers, from, alone, refusal, to-255, before-the-wrap}
 

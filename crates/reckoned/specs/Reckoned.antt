@@ -10,15 +10,15 @@ use Rattle.orders.specs.declared.Place.{Place}
 use Rattle.desk.specs.Desks.{rest, freshDesk}
 use Rattle.desk.specs.Runs.{run}
 use Rattle.train_telegram.specs.States.{systemWith}
-use Rattle.train_telegram.specs.declared.states.Brake.{Brake}
-use Rattle.train_telegram.specs.declared.states.Brake.the-variants.{PassengerInP, Unknown}
-use Rattle.train_telegram.specs.declared.states.Brake.the-variants as Brake′
-use Rattle.train_telegram.specs.declared.states.Cab.{Cab}
-use Rattle.train_telegram.specs.declared.states.Cab.the-variants.{None, A}
-use Rattle.train_telegram.specs.declared.states.Cab.the-variants as Cab′
-use Rattle.train_telegram.specs.declared.states.Isolation.the-variants.{Isolated, NotIsolated}
+use Rattle.train_codes.specs.declared.Brake.{Brake}
+use Rattle.train_codes.specs.declared.Brake.the-variants.{PassengerInP, Unknown}
+use Rattle.train_codes.specs.declared.Brake.the-variants as Brake′
+use Rattle.train_codes.specs.declared.Cab.{Cab}
+use Rattle.train_codes.specs.declared.Cab.the-variants.{None, A}
+use Rattle.train_codes.specs.declared.Cab.the-variants as Cab′
+use Rattle.train_codes.specs.declared.Isolation.the-variants.{Isolated, NotIsolated}
 use Rattle.train_telegram.specs.declared.states.National.{National}
-use Rattle.train_telegram.specs.declared.states.Traction.the-variants.{Supported}
+use Rattle.train_codes.specs.declared.Traction.the-variants.{Supported}
 use Rattle.signals.specs.Signals.{signalsWith, freshSignals, updateOf}
 use Rattle.signals.specs.declared.Answer.the-variants.{Accepted}
 use Rattle.signals.specs.declared.Updated.{Updated}

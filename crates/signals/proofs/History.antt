@@ -8,12 +8,12 @@ use lib.Dec.{eqb, ltb}
 use native.Mathlib.Omega.{arith}
 use borrow.Author.Tests.{eqb-true, eqb-false, ltb-true, ltb-false, lt-ltb, le-ltb}
 use Rattle.kit.proofs.Cases.{on, clash}
-use Rattle.train_telegram.specs.Readings.{trainRefusal, readOf}
+use Rattle.train_codes.specs.Refusals.{trainRefusal}
+use Rattle.train_telegram.specs.Readings.{readOf, Shows}
 use Rattle.train_telegram.specs.States.{statesOf, silent}
 use Rattle.train_telegram.specs.declared.states.States.{States}
 use Rattle.train_telegram.specs.declared.Reading.{Reading}
-use Rattle.train_telegram.specs.Codes.{Shows}
-use Rattle.train_telegram.proofs.Codes.{states-show}
+use Rattle.train_telegram.proofs.Showing.{states-show}
 use Rattle.train_telegram.proofs.Refusals.{read-refused, read-accepted}
 use Rattle.signals.specs.Signals.{signalsWith, freshSignals, missedBy, updateOf}
 use Rattle.signals.specs.Histories.{Call, updatedAll, isMiss, missesIn, lastSaid, standing, LastAccepted}

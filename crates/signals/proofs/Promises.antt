@@ -8,11 +8,11 @@ use native.Mathlib.Omega.{arith}
 use Rattle.kit.specs.Ladder.{Decides, Silent}
 use Rattle.wire.specs.declared.verdicts.Verdict.{Verdict}
 use Rattle.wire.specs.declared.verdicts.Verdict.the-variants.{Accepted, Refused}
-use Rattle.train_telegram.specs.Codes.{Shows}
-use Rattle.train_telegram.specs.Readings.{trainRows, readOf}
+use Rattle.train_codes.specs.Refusals.{trainRows}
+use Rattle.train_telegram.specs.Readings.{readOf, Shows}
 use Rattle.train_telegram.specs.States.{statesOf}
 use Rattle.train_telegram.specs.declared.states.States.{States}
-use Rattle.train_telegram.proofs.Codes.{states-show}
+use Rattle.train_telegram.proofs.Showing.{states-show}
 use Rattle.train_telegram.proofs.Refusals.{reading-refused, reading-accepted, accepted-states}
 use Rattle.signals.specs.Signals.{signalsWith, missedBy, updateOf, numberOf}
 use Rattle.signals.specs.declared.Answer.{Answer}

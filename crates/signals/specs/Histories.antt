@@ -5,7 +5,7 @@ use mathlib.Core.List.{List, [], _∷_}
 use mathlib.Core.Logic.{_⊎_}
 use mathlib.Core.Path.{_≡_}
 use lib.Dec.{eqb, ltb}
-use Rattle.train_telegram.specs.Readings.{trainRefusal}
+use Rattle.train_codes.specs.Refusals.{trainRefusal}
 use Rattle.train_telegram.specs.States.{statesOf, silent}
 use Rattle.train_telegram.specs.declared.states.States.{States}
 use Rattle.signals.specs.Signals.{signalsWith, freshSignals, updateOf}

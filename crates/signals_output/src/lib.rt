@@ -1,12 +1,12 @@
 // What the program read_signals writes: a line for each call, and one where the input ends inside a call.
 use signals::Answer;
 use signals::Updated;
-use train_telegram::Brake;
-use train_telegram::Cab;
-use train_telegram::Isolation;
+use train_codes::Brake;
+use train_codes::Cab;
+use train_codes::Isolation;
+use train_codes::Traction;
 use train_telegram::National;
 use train_telegram::States;
-use train_telegram::Traction;
 ghost use Rattle.kit.specs.Put.{Poured};
 ghost use Rattle.kit.specs.Each.{each};
 ghost use Rattle.signals_output.specs.Lines.{answerWords, missesWord, cabWord, brakeWord, isolationWord, systemWord, tractionWord, stateWords, lineOf, shortLine};

@@ -3,19 +3,15 @@ use Prim.Native.Nat.{ℕ}
 use mathlib.Core.List.{List}
 use mathlib.Core.Logic.{_↔_}
 use mathlib.Core.Path.{_≡_, refl, ap}
-use native.Mathlib.Omega.{arith}
 use borrow.Author.Tests.{eq-eqb, ne-eqb}
-use Rattle.kit.specs.Ladder.{Decides, Silent, Numbered}
+use Rattle.kit.specs.Ladder.{Decides, Silent}
 use Rattle.wire.specs.declared.verdicts.Verdict.the-variants.{Accepted, Refused}
 use Rattle.wire.proofs.Answers.{verdict-accepted, verdict-refused, verdict-number, refused-when, accepted-when}
-use Rattle.train_telegram.specs.Readings.{trainRows, trainRefusal, readOf}
+use Rattle.train_codes.specs.Refusals.{trainRows, trainRefusal}
+use Rattle.train_codes.proofs.Rows.{train-numbered}
+use Rattle.train_telegram.specs.Readings.{readOf}
 use Rattle.train_telegram.specs.States.{statesOf, silent}
 use Rattle.train_telegram.specs.declared.Reading.{Reading}
-
--- every answer of the ladder is a number of document 01, and so not 0
-pub train-numbered : (t : List ℕ) → Numbered (trainRows t)
-unfolding trainRows
-train-numbered t = (omega arith, (omega arith, (omega arith, tt)))
 
 -- the two ways of a reading: refused, with every signal silent beside it, or accepted
 module _ (t : List ℕ) (number : ℕ) (same : number ≡ trainRefusal t) where

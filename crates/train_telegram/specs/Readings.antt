@@ -1,36 +1,32 @@
--- Reading a telegram from the train: document 01, "Signals from the train", "all else zero", and "Refusal numbers", rows 10, 16, 17.
-use Prim.Native.Nat.{ℕ}
-use mathlib.Core.Bool.{Bool, not, cond, _||_}
-use mathlib.Core.List.{List, [], _∷_}
-use lib.Dec.{eqb, leb}
-use lib.ListN.{length, getD}
-use Rattle.kit.specs.Bytes.{bit, longAt}
-use Rattle.kit.specs.Ladder.{ladder}
-use Rattle.kit.specs.Loops.{any}
+-- Reading a telegram from the train: its refusal or its states, and what it is that states show a telegram.
+use Prim.Native.Nat.{ℕ, _%_, _<_}
+use mathlib.Core.Bool.{cond}
+use mathlib.Core.List.{List}
+use mathlib.Core.Logic.{_↔_}
+use mathlib.Core.Path.{_≡_}
+use lib.Dec.{eqb}
+use lib.ListN.{getD}
+use Rattle.kit.specs.Bytes.{bit, wordAt, longAt}
 use Rattle.wire.specs.Verdicts.{verdictOf}
+use Rattle.train_codes.specs.Origins.{CabCode, BrakeCode, IsolationCode, TractionCode}
+use Rattle.train_codes.specs.Refusals.{trainRefusal}
+use Rattle.train_codes.specs.declared.Brake.{Brake}
+use Rattle.train_codes.specs.declared.Cab.{Cab}
+use Rattle.train_codes.specs.declared.Isolation.{Isolation}
+use Rattle.train_codes.specs.declared.Traction.{Traction}
 use Rattle.train_telegram.specs.States.{statesOf, silent}
 use Rattle.train_telegram.specs.declared.Reading.{Reading}
-
--- S-08: one of the bytes 11 to 25 is set
-unfoldable pub restSet : List ℕ → Bool
-restSet t = any (λ i. not (eqb (getD t i 0) 0)) 11 15
-
--- R-17, A-31: a zero bit set: bits 7..2 of byte 1, bits 7..3 of byte 2, bit 0 of the list of traction systems, bytes 11 to 25
-unfoldable pub zeroBitSet : List ℕ → Bool
-zeroBitSet t = leb 4 (getD t 1 0) || (leb 8 (getD t 2 0) || (bit 0 (longAt t 7) || restSet t))
-
--- R-10, R-16, R-17, R-22: train: 10, 16, 17
-unfoldable pub trainRows : List ℕ → List (Bool × ℕ)
-trainRows t =
-    (not (eqb (length t) 26), 10)
-    ∷ (not (eqb (getD t 0 0) 1), 16)
-    ∷ (zeroBitSet t, 17)
-    ∷ []
-
--- the refusal of a telegram, or 0
-abbrev pub trainRefusal : List ℕ → ℕ
-trainRefusal t = ladder 0 (trainRows t)
+use Rattle.train_telegram.specs.declared.states.National.{National}
+use Rattle.train_telegram.specs.declared.states.States.{States}
 
 -- S-12, C-12: the answer, and the states that are said; beside a refusal every signal is silent
 unfoldable pub readOf : List ℕ → Reading
 readOf t = record { verdict = verdictOf (trainRefusal t); states = cond (eqb (trainRefusal t) 0) (statesOf t) silent }
+
+-- M-2c, M-2e, S-12: these states show a telegram: each signal has the state whose code stands in its own bits, and no other
+pub record Shows (states : States) (t : List ℕ) : Type 0 where
+  pub cab : (state : Cab) → (states .cab ≡ state) ↔ CabCode state (bit 1 (getD t 1 0)) (bit 0 (getD t 1 0))
+  pub brake : (state : Brake) → (states .brake ≡ state) ↔ BrakeCode state (getD t 2 0 % 8)
+  pub national : (other : National) (i : ℕ) → i < 16 → (state : Isolation)
+      → (getD (states .national) i other .isolation ≡ state) ↔ IsolationCode state (bit i (wordAt t 3)) (bit i (wordAt t 5))
+  pub traction : (state : Traction) → (states .traction ≡ state) ↔ TractionCode state (longAt t 7)

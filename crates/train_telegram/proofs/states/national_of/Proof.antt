@@ -7,10 +7,11 @@ use borrow.Author.Needs.{needs}
 use Rattle.kit.specs.Bytes.{bit}
 use Rattle.kit.specs.Fill.{Filled}
 use Rattle.kit.proofs.Fill.{filled-none, filled-more, filled-all}
-use Rattle.train_telegram.specs.States.{isolationOf, systemWith, nationalOf}
-use Rattle.train_telegram.specs.declared.states.Isolation.{Isolation}
-use Rattle.train_telegram.specs.declared.states.Isolation.the-variants.{Silent}
-use Rattle.train_telegram.proofs.Codes.{national-long, national-at}
+use Rattle.train_codes.specs.Codes.{isolationOf}
+use Rattle.train_telegram.specs.States.{systemWith, nationalOf}
+use Rattle.train_codes.specs.declared.Isolation.{Isolation}
+use Rattle.train_codes.specs.declared.Isolation.the-variants.{Silent}
+use Rattle.train_telegram.proofs.Showing.{national-long, national-at}
 use Rattle.train_telegram.proofs.states.national_of.Statement.{statement}
 use Rattle.train_telegram.proofs.states.national_of.Tie as tie
 

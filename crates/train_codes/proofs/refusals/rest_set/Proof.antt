@@ -9,9 +9,9 @@ use borrow.Author.Needs.{needs}
 use borrow.Author.Tests.{eq-eqb, ne-eqb}
 use Rattle.kit.specs.Loops.{any}
 use Rattle.kit.proofs.Loops.{scan-go, scan-hit, scan-end}
-use Rattle.train_telegram.specs.Readings.{restSet}
-use Rattle.train_telegram.proofs.rest_set.Statement.{statement}
-use Rattle.train_telegram.proofs.rest_set.Tie as tie
+use Rattle.train_codes.specs.Refusals.{restSet}
+use Rattle.train_codes.proofs.refusals.rest_set.Statement.{statement}
+use Rattle.train_codes.proofs.refusals.rest_set.Tie as tie
 
 abbrev set-at : List ℕ → ℕ → Bool
 set-at t i = not (eqb (getD t i 0) 0)

@@ -1,28 +1,23 @@
--- Each state comes from exactly its code (M-2c, M-2e): the telegram's states show it, signal by signal.
-use Prim.Native.Nat.{ℕ, zero, suc, _%_, _<_, _≤_}
+-- Each state comes from exactly its code (M-2c, M-2e).
+use Prim.Native.Nat.{ℕ, zero, suc, _<_, _≤_}
 use mathlib.Core.Bool.{Bool, true, false}
-use mathlib.Core.List.{List}
 use mathlib.Core.Logic.{_↔_}
 use mathlib.Core.Path.{_≡_, refl, sym, ap, subst}
 use lib.Dec.{ltb}
-use lib.ListN.{length, getD}
 use native.Mathlib.Omega.{arith}
 use borrow.Author.Tests.{ne-eqb, ltb-true, ltb-false}
-use Rattle.kit.proofs.Cases.{on}
-use Rattle.kit.specs.Bytes.{bit, wordAt, longAt}
 use Rattle.kit.specs.Ladder.{ladder}
-use Rattle.kit.proofs.Each.{length-one-each, one-each-at}
-use Rattle.train_telegram.specs.Codes.{CabCode, BrakeCode, IsolationCode, TractionCode, Shows}
-use Rattle.train_telegram.specs.States.{cabOf, brakeOf, isolationOf, systemWith, nationalOf, statesOf}
-use Rattle.train_telegram.specs.declared.states.Brake.{Brake}
-use Rattle.train_telegram.specs.declared.states.Brake.the-variants as Brake′
-use Rattle.train_telegram.specs.declared.states.Cab.{Cab}
-use Rattle.train_telegram.specs.declared.states.Cab.the-variants as Cab′
-use Rattle.train_telegram.specs.declared.states.Isolation.{Isolation}
-use Rattle.train_telegram.specs.declared.states.Isolation.the-variants as Isolation′
-use Rattle.train_telegram.specs.declared.states.National.{National}
-use Rattle.train_telegram.specs.declared.states.Traction.{Traction}
-use Rattle.train_telegram.specs.declared.states.Traction.the-variants as Traction′
+use Rattle.kit.proofs.Cases.{on}
+use Rattle.train_codes.specs.Codes.{cabOf, brakeOf, isolationOf}
+use Rattle.train_codes.specs.Origins.{CabCode, BrakeCode, IsolationCode, TractionCode}
+use Rattle.train_codes.specs.declared.Brake.{Brake}
+use Rattle.train_codes.specs.declared.Brake.the-variants as Brake′
+use Rattle.train_codes.specs.declared.Cab.{Cab}
+use Rattle.train_codes.specs.declared.Cab.the-variants as Cab′
+use Rattle.train_codes.specs.declared.Isolation.{Isolation}
+use Rattle.train_codes.specs.declared.Isolation.the-variants as Isolation′
+use Rattle.train_codes.specs.declared.Traction.{Traction}
+use Rattle.train_codes.specs.declared.Traction.the-variants as Traction′
 
 -- a code that only one state has: where the state's own code holds and a code gives one state alone, that state is the code's
 exactly : {State : Type 0} (Code : State → Type 0) (own : State) → Code own → ((state : State) → Code state → own ≡ state) → (state : State) → (own ≡ state) ↔ Code state
@@ -95,36 +90,9 @@ isolation-exactly isolated inverse = exactly (λ state. IsolationCode state isol
     one a b Isolation′.Silent code = absurd code
 
 -- S-07
-traction-exactly : (list : ℕ) (state : Traction) → (Traction′.Supported list ≡ state) ↔ TractionCode state list
+pub traction-exactly : (list : ℕ) (state : Traction) → (Traction′.Supported list ≡ state) ↔ TractionCode state list
 traction-exactly list = exactly (λ state. TractionCode state list) (Traction′.Supported list) refl one
   where
     one : (state : Traction) → TractionCode state list → Traction′.Supported list ≡ state
     one (Traction′.Supported systems) e = ap Traction′.Supported e
     one Traction′.Silent code = absurd code
-
--- ---- the sixteen systems
-
--- S-05, S-06: system i + 1 is by bit i of both words
-module _ (isolated inverse : ℕ) where
-  pub national-long : length (nationalOf isolated inverse) ≡ 16
-  unfolding nationalOf
-  national-long = length-one-each (λ i. systemWith (isolationOf (bit i isolated) (bit i inverse))) 16
-
-  pub national-at : (other : National) (i : ℕ) → i < 16 → getD (nationalOf isolated inverse) i other ≡ systemWith (isolationOf (bit i isolated) (bit i inverse))
-  unfolding nationalOf
-  national-at other i p = one-each-at (λ j. systemWith (isolationOf (bit j isolated) (bit j inverse))) 16 other i p
-
--- ---- the telegram
-
--- M-2c, M-2e, S-12: the states that a telegram says are those of its codes
-pub states-show : (t : List ℕ) → Shows (statesOf t) t
-unfolding statesOf
-states-show t =
-    record {
-      cab = cab-exactly (bit 1 (getD t 1 0)) (bit 0 (getD t 1 0));
-      brake = brake-exactly (getD t 2 0 % 8);
-      national = λ other i p state.
-          subst (λ (system : National). (system .isolation ≡ state) ↔ IsolationCode state (bit i (wordAt t 3)) (bit i (wordAt t 5))) (sym (national-at (wordAt t 3) (wordAt t 5) other i p))
-          (isolation-exactly (bit i (wordAt t 3)) (bit i (wordAt t 5)) state);
-      traction = traction-exactly (longAt t 7);
-    }

@@ -1,8 +1,8 @@
 -- `isolation_of`: by the two bits.
 use mathlib.Core.Path.{sym, ap₂}
-use Rattle.train_telegram.specs.States.{isolationOf}
-use Rattle.train_telegram.proofs.states.isolation_of.Statement.{statement}
-use Rattle.train_telegram.proofs.states.isolation_of.Tie as tie
+use Rattle.train_codes.specs.Codes.{isolationOf}
+use Rattle.train_codes.proofs.isolation_of.Statement.{statement}
+use Rattle.train_codes.proofs.isolation_of.Tie as tie
 
 returns : tie.Need-returns
 returns c = sym (ap₂ isolationOf (c .before .if1 .taken) (c .if2 .taken))

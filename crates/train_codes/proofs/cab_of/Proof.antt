@@ -1,8 +1,8 @@
 -- `cab_of`: by the two bits.
 use mathlib.Core.Path.{sym, ap₂}
-use Rattle.train_telegram.specs.States.{cabOf}
-use Rattle.train_telegram.proofs.states.cab_of.Statement.{statement}
-use Rattle.train_telegram.proofs.states.cab_of.Tie as tie
+use Rattle.train_codes.specs.Codes.{cabOf}
+use Rattle.train_codes.proofs.cab_of.Statement.{statement}
+use Rattle.train_codes.proofs.cab_of.Tie as tie
 
 returns : tie.Need-returns
 returns c = sym (ap₂ cabOf (c .before .if1 .taken) (c .if2 .taken))

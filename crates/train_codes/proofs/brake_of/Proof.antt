@@ -2,9 +2,9 @@
 use mathlib.Core.Path.{sym, ap}
 use borrow.Author.Tests.{ne-eqb}
 use Rattle.kit.specs.Ladder.{ladder}
-use Rattle.train_telegram.specs.States.{brakeOf}
-use Rattle.train_telegram.proofs.states.brake_of.Statement.{statement}
-use Rattle.train_telegram.proofs.states.brake_of.Tie as tie
+use Rattle.train_codes.specs.Codes.{brakeOf}
+use Rattle.train_codes.proofs.brake_of.Statement.{statement}
+use Rattle.train_codes.proofs.brake_of.Tie as tie
 
 returns : tie.Need-returns
 unfolding brakeOf ladder

@@ -2,10 +2,10 @@
 use mathlib.Core.Path.{sym, _∙_}
 use borrow.Author.Tests.{eq-eqb, ne-eqb}
 use Rattle.kit.specs.Ladder.{ladder}
-use Rattle.train_telegram.specs.Readings.{trainRows}
+use Rattle.train_codes.specs.Refusals.{trainRows}
 use borrow.Author.Needs.{needs}
-use Rattle.train_telegram.proofs.refusal_of.Statement.{statement}
-use Rattle.train_telegram.proofs.refusal_of.Tie as tie
+use Rattle.train_codes.proofs.refusals.refusal_of.Statement.{statement}
+use Rattle.train_codes.proofs.refusals.refusal_of.Tie as tie
 
 returns : tie.Need-returns
 unfolding trainRows ladder

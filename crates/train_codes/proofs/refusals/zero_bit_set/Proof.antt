@@ -1,10 +1,10 @@
 -- `zero_bit_set`: test by test.
 use mathlib.Core.Path.{sym}
 use borrow.Author.Tests.{eq-eqb, ne-eqb, le-leb, lt-leb}
-use Rattle.train_telegram.specs.Readings.{zeroBitSet}
+use Rattle.train_codes.specs.Refusals.{zeroBitSet}
 use borrow.Author.Needs.{needs}
-use Rattle.train_telegram.proofs.zero_bit_set.Statement.{statement}
-use Rattle.train_telegram.proofs.zero_bit_set.Tie as tie
+use Rattle.train_codes.proofs.refusals.zero_bit_set.Statement.{statement}
+use Rattle.train_codes.proofs.refusals.zero_bit_set.Tie as tie
 
 byte-at-requires : tie.Need-byte-at-requires
 byte-at-requires c κs = search needs
