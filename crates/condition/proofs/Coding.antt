@@ -11,7 +11,7 @@ use Rattle.kit.specs.Ladder.{ladder, Decides, Silent, Numbered}
 use Rattle.kit.proofs.Cases.{on, clash, given, and-both, and-second, above-zero}
 use Rattle.kit.proofs.Ladder.{ladder-silent}
 use Rattle.wire.specs.Distances.{noValue}
-use Rattle.condition.specs.Words.{isType, isConsidered, secondAllowed, secondHeld}
+use Rattle.kinds.specs.Words.{isType, isConsidered, secondAllowed, secondHeld}
 use Rattle.condition.specs.Slots.{isFilled, isOccupied, bodyOf, slotRows, slotIn, slotOf, coding, codedOf, settled, HeldBody, Held}
 use Rattle.condition.specs.declared.slots.Body.{Body}
 use Rattle.condition.specs.declared.slots.Body.the-variants.{Empty, Area, Traction, Current}

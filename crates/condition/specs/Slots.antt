@@ -9,7 +9,7 @@ use Rattle.kit.specs.Bytes.{wordBytes}
 use Rattle.kit.specs.Ladder.{ladder}
 use Rattle.wire.specs.Distances.{noValue}
 use Rattle.wire.specs.Verdicts.{verdictOf}
-use Rattle.condition.specs.Words.{isType, secondAllowed, secondHeld}
+use Rattle.kinds.specs.Words.{isType, secondAllowed, secondHeld}
 use Rattle.condition.specs.declared.slots.Body.{Body}
 use Rattle.condition.specs.declared.slots.Body.the-variants.{Empty, Area, Traction, Current}
 use Rattle.condition.specs.declared.slots.Coded.{Coded}

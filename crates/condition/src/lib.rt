@@ -1,7 +1,5 @@
-// What a condition is: its type, its two words and the rule for the second (words), the slot that holds a condition and the number,
-// type and words that code it (slots).
+// What a condition is: the slot that holds it, and the number, type and words that code it.
 mod slots;
-mod words;
 
 pub use slots::Body;
 pub use slots::Coded;
@@ -12,6 +10,3 @@ pub use slots::body_of;
 pub use slots::coded_of;
 pub use slots::refusal_of;
 pub use slots::slot_of;
-pub use words::is_kind;
-pub use words::second_allowed;
-pub use words::second_held;

@@ -1,13 +1,13 @@
 // A slot, and the number, type and two words that code it.
 ghost use mathlib.Core.Path.{_≡_};
 ghost use Rattle.condition.specs.Slots.{emptySlot, isOccupied, bodyOf, slotRefusal, slotOf, codedOf};
-use crate::words::COUNTRIES;
-use crate::words::CURRENT;
-use crate::words::TRACTION;
-use crate::words::VOLTAGES;
-use crate::words::is_kind;
-use crate::words::second_allowed;
-use crate::words::second_held;
+use kinds::COUNTRIES;
+use kinds::CURRENT;
+use kinds::TRACTION;
+use kinds::VOLTAGES;
+use kinds::is_kind;
+use kinds::second_allowed;
+use kinds::second_held;
 use wire::Verdict;
 
 // How many slots a table has.

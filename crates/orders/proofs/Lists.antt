@@ -13,7 +13,7 @@ use Rattle.kit.proofs.Cases.{on, given, and-second}
 use Rattle.condition.specs.Slots.{codedOf, slots}
 use Rattle.kit.proofs.Ladder.{silent-each}
 use Rattle.kit.proofs.Loops.{found-there, found-none, found-when}
-use Rattle.condition.specs.Words.{isType, secondAllowed}
+use Rattle.kinds.specs.Words.{isType, secondAllowed}
 use Rattle.orders.specs.Orders.{orderAt, orderCount, listedAt, isListed, placeAt, placeOf, isLive, isRetyped, orderRows, listRows, listRefusal}
 use Rattle.orders.specs.declared.Place.{Place}
 use Rattle.orders.proofs.Rows.{list-accepted}

@@ -9,7 +9,7 @@ use Rattle.kit.specs.Bytes.{wordAt, longAt}
 use Rattle.kit.specs.Each.{each}
 use Rattle.kit.specs.Ladder.{ladder}
 use Rattle.kit.specs.Loops.{find}
-use Rattle.condition.specs.Words.{isType, secondAllowed}
+use Rattle.kinds.specs.Words.{isType, secondAllowed}
 use Rattle.orders.specs.declared.Order.{Order}
 use Rattle.orders.specs.declared.Place.{Place}
 

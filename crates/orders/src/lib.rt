@@ -102,13 +102,13 @@ fn order_refusal(places: [Place; 20], list: &[u8], j: u8) -> u8
     if order.number == 0 {
         return 3;
     }
-    if !condition::is_kind(order.kind) {
+    if !kinds::is_kind(order.kind) {
         return 4;
     }
     if order.spare != 0 {
         return 5;
     }
-    if !condition::second_allowed(order.kind, order.first, order.second) {
+    if !kinds::second_allowed(order.kind, order.first, order.second) {
         return 6;
     }
     if listed_at(list, j, order.number) < j {

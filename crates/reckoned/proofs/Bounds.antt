@@ -17,7 +17,7 @@ use Rattle.kit.specs.Loops.{scan, fold, count}
 use Rattle.condition.specs.Slots.{bodyOf, codedOf, slotRows, sixOf}
 use Rattle.wire.specs.Steps.{gapOf}
 use Rattle.wire.specs.Verdicts.{verdictOf}
-use Rattle.condition.specs.Words.{isConsidered, secondAllowed, secondHeld}
+use Rattle.kinds.specs.Words.{isConsidered, secondAllowed, secondHeld}
 use Rattle.telegram.specs.Tables.{fourOf}
 use Rattle.telegram.specs.Telegrams.{readOf, readRows, codedAt, takenBefore, telegramOf, bytesOf, written}
 use Rattle.desk.specs.Desks.{rest, tableOf, telegramOf as deskTelegram}

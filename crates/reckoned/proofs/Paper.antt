@@ -11,7 +11,7 @@ use Rattle.kit.specs.Ladder.{ladder}
 use Rattle.kit.specs.Loops.{scan, fold}
 use Rattle.condition.specs.Slots.{bodyOf}
 use Rattle.wire.specs.Steps.{gapOf}
-use Rattle.condition.specs.Words.{secondHeld, isConsidered}
+use Rattle.kinds.specs.Words.{secondHeld, isConsidered}
 use Rattle.orders.specs.Orders.{orderAt, listedAt, placeOf, listRows}
 use Rattle.numbers.specs.Numbers.{restsBy, isResting, hasNumber, nextNumber}
 use Rattle.desk.specs.Desks.{freshWith}

@@ -13,7 +13,7 @@ use Rattle.kit.proofs.Cases.{on}
 use Rattle.condition.specs.Slots.{bodyOf, codedOf}
 use Rattle.wire.specs.Steps.{steps, gapOf}
 use Rattle.wire.specs.Verdicts.{verdictOf}
-use Rattle.condition.specs.Words.{isConsidered, secondAllowed, secondHeld}
+use Rattle.kinds.specs.Words.{isConsidered, secondAllowed, secondHeld}
 use Rattle.condition.specs.declared.slots.Body.the-variants.{Area}
 use Rattle.wire.specs.declared.verdicts.Verdict.the-variants.{Accepted}
 use Rattle.orders.specs.Orders.{freePlace, orderAt, listedAt, placeOf, orderRows, isRetyped, listRows}

@@ -6,52 +6,22 @@ use native.Mathlib.Omega.{arith}
 use Rattle.kit.specs.Each.{each}
 use Rattle.kit.proofs.Each.{length-each-most}
 use Rattle.text.specs.Decimals.{decimal}
-use Rattle.text.proofs.Numerals.{decimal-byte, hexadecimal-long}
+use Rattle.text.proofs.Numerals.{decimal-byte}
+use Rattle.state_words.specs.Words.{cabWord, brakeWord, tractionWord}
+use Rattle.state_words.proofs.Length.{cab-short, brake-short, isolation-short, traction-short}
 use Rattle.train_telegram.specs.States.{systemWith}
-use Rattle.train_codes.specs.declared.Brake.{Brake}
-use Rattle.train_codes.specs.declared.Brake.the-variants as Brake′
-use Rattle.train_codes.specs.declared.Cab.{Cab}
-use Rattle.train_codes.specs.declared.Cab.the-variants as Cab′
-use Rattle.train_codes.specs.declared.Isolation.{Isolation}
 use Rattle.train_codes.specs.declared.Isolation.the-variants as Isolation′
 use Rattle.train_telegram.specs.declared.states.States.{States}
-use Rattle.train_codes.specs.declared.Traction.{Traction}
-use Rattle.train_codes.specs.declared.Traction.the-variants as Traction′
 use Rattle.signals.specs.Signals.{numberOf}
 use Rattle.signals.specs.declared.Answer.{Answer}
 use Rattle.signals.specs.declared.Answer.the-variants.{Accepted, Missed, Refused}
 use Rattle.signals.specs.declared.Updated.{Updated}
-use Rattle.signals_output.specs.Lines.{refused, answerWords, missesWord, cabWord, brakeWord, isolationWord, systemWord, tractionWord, stateWords, lineOf}
+use Rattle.signals_output.specs.Lines.{refused, answerWords, missesWord, systemWord, stateWords, lineOf}
 
 answer-short : (answer : Answer) → numberOf answer < 256 → length (answerWords answer) ≤ 11
 answer-short Accepted p = omega arith
 answer-short Missed p = omega arith
 answer-short (Refused number) p = omega (arith, length-append refused (decimal number), decimal-byte number p)
-
-cab-short : (cab : Cab) → length (cabWord cab) ≤ 8
-cab-short Cab′.Silent = omega arith
-cab-short Cab′.None = omega arith
-cab-short Cab′.A = omega arith
-cab-short Cab′.B = omega arith
-cab-short Cab′.Invalid = omega arith
-
-brake-short : (brake : Brake) → length (brakeWord brake) ≤ 12
-brake-short Brake′.Silent = omega arith
-brake-short Brake′.PassengerInP = omega arith
-brake-short Brake′.FreightInP = omega arith
-brake-short Brake′.FreightInG = omega arith
-brake-short Brake′.Unknown = omega arith
-brake-short Brake′.Invalid = omega arith
-
-isolation-short : (isolation : Isolation) → length (isolationWord isolation) ≤ 13
-isolation-short Isolation′.Silent = omega arith
-isolation-short Isolation′.Isolated = omega arith
-isolation-short Isolation′.NotIsolated = omega arith
-isolation-short Isolation′.Invalid = omega arith
-
-traction-short : (traction : Traction) → length (tractionWord traction) ≤ 9
-traction-short Traction′.Silent = omega arith
-traction-short (Traction′.Supported systems) = omega (arith, hexadecimal-long 8 systems)
 
 states-short : (states : States) → length (stateWords states) ≤ 237
 unfolding stateWords

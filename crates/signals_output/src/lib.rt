@@ -1,15 +1,11 @@
 // What the program read_signals writes: a line for each call, and one where the input ends inside a call.
 use signals::Answer;
 use signals::Updated;
-use train_codes::Brake;
-use train_codes::Cab;
-use train_codes::Isolation;
-use train_codes::Traction;
 use train_telegram::National;
 use train_telegram::States;
 ghost use Rattle.kit.specs.Put.{Poured};
 ghost use Rattle.kit.specs.Each.{each};
-ghost use Rattle.signals_output.specs.Lines.{answerWords, missesWord, cabWord, brakeWord, isolationWord, systemWord, tractionWord, stateWords, lineOf, shortLine};
+ghost use Rattle.signals_output.specs.Lines.{answerWords, missesWord, systemWord, stateWords, lineOf, shortLine};
 
 // Each word after the first has a blank before it.
 const BLANK: u8 = 32;
@@ -36,42 +32,6 @@ fn put_misses(misses: u8, line: &mut [u8], at: usize) -> usize
     text::put_decimal(line, next, misses as u64)
 }
 
-fn put_cab(cab: Cab, line: &mut [u8], at: usize) -> usize
-    ensures { λ r. ⌜ Poured (now (line .entry)) at (cabWord cab) (now (line .exit)) r ⌝ }
-{
-    match cab {
-        Cab::Silent => text::put_words(line, at, b" silent"),
-        Cab::None => text::put_words(line, at, b" none"),
-        Cab::A => text::put_words(line, at, b" A"),
-        Cab::B => text::put_words(line, at, b" B"),
-        Cab::Invalid => text::put_words(line, at, b" invalid"),
-    }
-}
-
-fn put_brake(brake: Brake, line: &mut [u8], at: usize) -> usize
-    ensures { λ r. ⌜ Poured (now (line .entry)) at (brakeWord brake) (now (line .exit)) r ⌝ }
-{
-    match brake {
-        Brake::Silent => text::put_words(line, at, b" silent"),
-        Brake::PassengerInP => text::put_words(line, at, b" passenger-P"),
-        Brake::FreightInP => text::put_words(line, at, b" freight-P"),
-        Brake::FreightInG => text::put_words(line, at, b" freight-G"),
-        Brake::Unknown => text::put_words(line, at, b" unknown"),
-        Brake::Invalid => text::put_words(line, at, b" invalid"),
-    }
-}
-
-fn put_isolation(isolation: Isolation, line: &mut [u8], at: usize) -> usize
-    ensures { λ r. ⌜ Poured (now (line .entry)) at (isolationWord isolation) (now (line .exit)) r ⌝ }
-{
-    match isolation {
-        Isolation::Silent => text::put_words(line, at, b" silent"),
-        Isolation::Isolated => text::put_words(line, at, b" isolated"),
-        Isolation::NotIsolated => text::put_words(line, at, b" not-isolated"),
-        Isolation::Invalid => text::put_words(line, at, b" invalid"),
-    }
-}
-
 // The sixteen systems, from 1.
 fn put_national(national: [National; 16], line: &mut [u8], at: usize) -> usize
     ensures { λ r. ⌜ Poured (now (line .entry)) at (each (systemWord national) 0 16) (now (line .exit)) r ⌝ }
@@ -81,22 +41,10 @@ fn put_national(national: [National; 16], line: &mut [u8], at: usize) -> usize
     while i < 16 {
         let system = national[i];
         let isolation = system.isolation;
-        next = put_isolation(isolation, line, next);
+        next = state_words::put_isolation(isolation, line, next);
         i += 1;
     }
     next
-}
-
-fn put_traction(traction: Traction, line: &mut [u8], at: usize) -> usize
-    ensures { λ r. ⌜ Poured (now (line .entry)) at (tractionWord traction) (now (line .exit)) r ⌝ }
-{
-    match traction {
-        Traction::Silent => text::put_words(line, at, b" silent"),
-        Traction::Supported(systems) => {
-            let next = text::put_byte(line, at, BLANK);
-            text::put_hexadecimal(line, next, systems, 8)
-        }
-    }
 }
 
 fn put_states(states: States, line: &mut [u8], at: usize) -> usize
@@ -106,10 +54,10 @@ fn put_states(states: States, line: &mut [u8], at: usize) -> usize
     let brake = states.brake;
     let national = states.national;
     let traction = states.traction;
-    let second = put_cab(cab, line, at);
-    let third = put_brake(brake, line, second);
+    let second = state_words::put_cab(cab, line, at);
+    let third = state_words::put_brake(brake, line, second);
     let fourth = put_national(national, line, third);
-    put_traction(traction, line, fourth)
+    state_words::put_traction(traction, line, fourth)
 }
 
 // The answer to a call and the record after it.

@@ -14,7 +14,7 @@ use Rattle.kit.specs.Ladder.{Silent}
 use Rattle.kit.proofs.Bytes.{high-back, low-back}
 use Rattle.kit.proofs.Cases.{on}
 use Rattle.condition.specs.Slots.{codedOf, settled, sixOf}
-use Rattle.condition.specs.Words.{isConsidered, secondHeld}
+use Rattle.kinds.specs.Words.{isConsidered, secondHeld}
 use Rattle.condition.proofs.Coding.{coded-back}
 use Rattle.telegram.specs.Telegrams.{place, codedAt, readRows, sixAt, telegramOf, bytesOf}
 use Rattle.telegram.specs.Sendable.{isIdle}

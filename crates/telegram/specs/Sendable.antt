@@ -7,7 +7,7 @@ use lib.Dec.{leb}
 use lib.ListN.{length, getD}
 use Rattle.condition.specs.Slots.{emptySlot, Held}
 use Rattle.wire.specs.Steps.{steps}
-use Rattle.condition.specs.Words.{isConsidered}
+use Rattle.kinds.specs.Words.{isConsidered}
 use Rattle.condition.specs.declared.slots.Slot.{Slot}
 use Rattle.telegram.specs.Telegrams.{codedAt}
 use Rattle.telegram.specs.declared.Telegram.{Telegram}

@@ -9,8 +9,8 @@ use Rattle.orders.proofs.order_refusal.Statement.{statement}
 use Rattle.orders.proofs.order_refusal.Tie as tie
 use Rattle.orders.proofs.order_refusal.Reads as reads
 use Rattle.orders.proofs.order_refusal.Lts as lts
-use Rattle.condition.proofs.is_kind.Reads as is-kind-reads
-use Rattle.condition.proofs.second_allowed.Reads as second-allowed-reads
+use Rattle.kinds.proofs.is_kind.Reads as is-kind-reads
+use Rattle.kinds.proofs.second_allowed.Reads as second-allowed-reads
 use Rattle.orders.proofs.is_retyped.Reads as is-retyped-reads
 use Rattle.orders.proofs.listed_at.Reads as listed-at-reads
 use Rattle.orders.proofs.order_at.Reads as order-at-reads

@@ -4,7 +4,7 @@ use borrow.Author.Tests.{eq-eqb, ne-eqb, not-true, not-false}
 use Rattle.kit.specs.Ladder.{ladder}
 use mathlib.Core.Bool.{true, cond}
 use Rattle.kit.proofs.Cases.{on, above-zero}
-use Rattle.condition.specs.Words.{isType, isConsidered, secondAllowed}
+use Rattle.kinds.specs.Words.{isType, isConsidered, secondAllowed}
 use Rattle.condition.specs.Slots.{slotRows, slotRefusal}
 use Rattle.condition.specs.declared.slots.Coded.{Coded}
 use borrow.Author.Needs.{needs}
