@@ -1,3 +1,4 @@
 pub mod Bounds
 pub mod Paper
 pub mod Standing
+pub mod Wrap

@@ -23,7 +23,8 @@ use Rattle.train_codes.specs.Refusals.{restSet, zeroBitSet, trainRows}
 use Rattle.train_telegram.specs.Readings.{readOf}
 use Rattle.train_telegram.specs.States.{nationalOf, statesOf}
 use Rattle.signals.specs.Signals.{updateOf}
-use Rattle.reckoned.specs.Reckoned.{Row, numbers-are, signals-are, received, showing, paper, short-rows, p5-wrap, order, orders, wholly-new, one-stays, empty, numbers, from, alone, refusal, to-255, before-the-wrap}
+use Rattle.reckoned.proofs.Wrap.{wrap-holds}
+use Rattle.reckoned.specs.Reckoned.{Row, numbers-are, signals-are, received, showing, paper, short-rows, order, orders, wholly-new, one-stays, empty, numbers, from, alone, refusal, to-255, before-the-wrap}
 
 -- whether two lists of numbers are the same, as a test that computes; and what the test says
 same : List ℕ → List ℕ → Bool
@@ -47,14 +48,10 @@ abbrev AllTested : List Row → Type 0
 AllTested [] = Unit
 AllTested (row ∷ rows) = Tested row × AllTested rows
 
--- the checker computes the rows, the run of 8,197 steps by itself since one declaration may take so many steps and no more
+-- the checker computes the rows, but for the run of 8,197 steps (Wrap.antt)
 short-tested : AllTested short-rows
 unfolding same order orders wholly-new one-stays empty numbers from alone to-255 before-the-wrap refusal each ladder scan fold bodyOf secondHeld isConsidered gapOf orderAt listedAt placeOf listRows restsBy isResting hasNumber nextNumber freshWith run keptPlace endedEntry endedNumbers seated seatedAll stepOf received showing updateOf readOf trainRows zeroBitSet restSet verdictOf statesOf nationalOf brakeOf
 short-tested = (refl, (refl, (refl, (refl, (refl, (refl, (refl, (refl, (refl, (refl, (refl, (refl, tt))))))))))))
-
-wrap-tested : Tested p5-wrap
-unfolding same order orders wholly-new one-stays empty numbers from alone to-255 before-the-wrap refusal each ladder scan fold bodyOf secondHeld isConsidered gapOf orderAt listedAt placeOf listRows restsBy isResting hasNumber nextNumber freshWith run keptPlace endedEntry endedNumbers seated seatedAll stepOf
-wrap-tested = refl
 
 -- ---- the theorem
 
@@ -78,4 +75,4 @@ all-hold (row ∷ rows) (t, ts) = (holds row t, all-hold rows ts)
 
 -- C-10: one theorem for the table
 pub paper-holds : AllHold paper
-paper-holds = all-hold paper (wrap-tested, short-tested)
+paper-holds = (wrap-holds, all-hold short-rows short-tested)
