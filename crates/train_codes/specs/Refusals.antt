@@ -17,7 +17,7 @@ restSet t = any (λ i. not (eqb (getD t i 0) 0)) 11 15
 unfoldable pub zeroBitSet : List ℕ → Bool
 zeroBitSet t = leb 4 (getD t 1 0) || (leb 8 (getD t 2 0) || (bit 0 (longAt t 7) || restSet t))
 
--- R-10, R-16, R-17, R-22: train: 10, 16, 17
+-- S-02, R-10, R-16, R-17, R-22: train: 10, 16, 17
 unfoldable pub trainRows : List ℕ → List (Bool × ℕ)
 trainRows t =
     (not (eqb (length t) 26), 10)
