@@ -19,14 +19,14 @@ use Rattle.telegram.specs.Tables.{packets, firstPacket, fourOf}
 use Rattle.condition.specs.Slots.{slots}
 use Rattle.telegram.specs.declared.Telegram.{Telegram}
 use Rattle.picture.specs.Pictures.{countOf, clashes, marksOf}
-use Rattle.listener.specs.Sets.{begun, setFor, isHeld, joined, isWhole as isGathered}
+use Rattle.hand.specs.Sets.{begun, setFor, isHeld, joined, isWhole as isGathered}
 use Rattle.listener.specs.Listeners.{freshListener, isLast, gapFrom, holding, takenBy, takenAnswer, heardOf, hearOf}
 use Rattle.listener.specs.declared.Answer.the-variants.{Refused as refused, Taken}
 use Rattle.listener.specs.declared.Heard.{Heard}
 use Rattle.listener.specs.declared.Last.the-variants.{Step}
 use Rattle.listener.specs.declared.Listener.{Listener}
-use Rattle.listener.specs.declared.sets.Hand.{Hand}
-use Rattle.listener.proofs.Gathering.{Gathered, gathered-none, gathered-as, gathered-held, gathered-more, gathered-whole, gathered-table, set-same, set-other, set-first}
+use Rattle.hand.specs.declared.Hand.{Hand}
+use Rattle.hand.proofs.Gathering.{Gathered, gathered-none, gathered-as, gathered-held, gathered-more, gathered-whole, gathered-table, set-same, set-other, set-first}
 use Rattle.listener.proofs.Hearing.{hear-refused, hear-as, heard-last, heard-copy, heard-part, heard-taken, fresh-picture, fresh-last, fresh-hand, taken-picture, taken-last, taken-marks, taken-hand}
 use Rattle.claims.specs.Calls.{stepsMade, tableIn}
 use Rattle.claims.specs.Hearings.{Item, sent, spoilt, wasHeard, isWhole, wholes, firstOr, NoneAfter, newestOr, farthest, Near}

@@ -4,12 +4,13 @@ use mathlib.Core.Path.{_≡_, refl, sym, ap, _∙_, subst}
 use mathlib.Core.List.{List, [], _∷_, _++_, append-nil}
 use lib.ListN.{length, take, drop, set, length-append, drop-of-length-le}
 use lib.Dec.{leb}
-use lib.Seq.{sets, sets-eq, length-sets, set-out, length-take-le}
+use lib.Seq.{sets, sets-eq, length-sets, length-take-le}
 use native.Mathlib.Nat.{add-zero}
 use native.Mathlib.Omega.{arith}
 use borrow.Author.Tests.{leb-true, leb-false}
 use Rattle.kit.specs.Put.{Put, Poured}
 use Rattle.kit.proofs.Cases.{on}
+use Rattle.kit.proofs.Stores.{sets-past}
 
 sets-append : (l : List ℕ) (i : ℕ) (a b : List ℕ) → sets (sets l i a) (i + length a) b ≡ sets l i (a ++ b)
 sets-append l i [] b = ap (λ (k : ℕ). sets l k b) (add-zero i)
@@ -40,16 +41,11 @@ put-whole {l} {bytes} {m} h p =
 
 -- ---- the same with a buffer's end
 
--- past the end nothing is stored
-sets-out : (l : List ℕ) (i : ℕ) (bytes : List ℕ) → length l ≤ i → sets l i bytes ≡ l
-sets-out l i [] h = refl
-sets-out l i (x ∷ bytes) h = ap (λ (m : List ℕ). sets m (suc i) bytes) (set-out l i x h) ∙ sets-out l (suc i) bytes (omega arith)
-
 pub poured-none : (l : List ℕ) (i : ℕ) → i ≤ length l → Poured l i [] l i
 poured-none l i h = record { stored = refl; past = omega (arith, add-zero i) }
 
 pub poured-full : (l : List ℕ) (i : ℕ) (bytes : List ℕ) → length l ≤ i → Poured l i bytes l (length l)
-poured-full l i bytes h = record { stored = sym (sets-out l i bytes h); past = omega arith }
+poured-full l i bytes h = record { stored = sym (sets-past bytes l i h); past = omega arith }
 
 pub poured-length : {l m : List ℕ} {i j : ℕ} {a : List ℕ} → Poured l i a m j → length m ≡ length l
 poured-length {l} {i = i} {a = a} p = ap length (p .stored) ∙ length-sets l i a
@@ -65,8 +61,8 @@ poured-then {l} {m} {n} {i} {j} {k} {a} {b} p q =
           let e : j ≡ i + length a = omega (arith, p .past, leb-true (i + length a) (length l) fits) in
           ap (λ (x : ℕ). sets m x b) e)
           (λ full.
-          sets-out m j b (omega (arith, p .past, leb-false (i + length a) (length l) full))
-          ∙ sym (sets-out m (i + length a) b (omega (arith, leb-false (i + length a) (length l) full))))
+          sets-past b m j (omega (arith, p .past, leb-false (i + length a) (length l) full))
+          ∙ sym (sets-past b m (i + length a) (omega (arith, leb-false (i + length a) (length l) full))))
           ∙ (ap (λ (x : List ℕ). sets x (i + length a) b) (p .stored) ∙ sets-append l i a b));
       past = let e = length-append a b in omega (arith, p .past, q .past, e, long);
     }

@@ -11,6 +11,11 @@ use native.Mathlib.Nat.{add-zero}
 use borrow.Author.Tests.{eqb-true, eqb-false, ltb-true, ltb-false}
 use Rattle.kit.proofs.Cases.{on}
 
+-- past the end nothing is stored
+pub sets-past : {A : Type 0} (stored l : List A) (at : ℕ) → length l ≤ at → sets l at stored ≡ l
+sets-past [] l at h = refl
+sets-past (a ∷ stored) l at h = ap (λ m. sets m (suc at) stored) (set-out l at a h) ∙ sets-past stored l (suc at) (omega arith)
+
 module _ {A : Type 0} (other : A) where
   pub sets-out : (stored l : List A) (at i : ℕ) → (i < at) ⊎ (at + length stored ≤ i) → getD (sets l at stored) i other ≡ getD l i other
   sets-out [] l at i h = refl

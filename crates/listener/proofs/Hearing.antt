@@ -12,12 +12,12 @@ use Rattle.wire.specs.declared.verdicts.Verdict.the-variants.{Accepted, Refused
 use Rattle.telegram.specs.declared.Reading.{Reading}
 use Rattle.telegram.specs.declared.Telegram.{Telegram}
 use Rattle.picture.specs.Pictures.{clashes, marksOf}
-use Rattle.listener.specs.Sets.{begun, setFor, isHeld, joined, isWhole}
+use Rattle.hand.specs.Sets.{begun, setFor, isHeld, joined, isWhole}
 use Rattle.listener.specs.Listeners.{freshListener, markAt, gapFrom, isLast, holding, takenBy, takenAnswer, heardOf, afterReading, hearOf}
 use Rattle.listener.specs.declared.Answer.the-variants.{Refused as refused, Repeat, Held}
 use Rattle.listener.specs.declared.Last.the-variants.{Never, Step}
 use Rattle.listener.specs.declared.Listener.{Listener}
-use Rattle.listener.specs.declared.sets.Hand.{Hand}
+use Rattle.hand.specs.declared.Hand.{Hand}
 
 module _ (limit : ℕ) (listener : Listener) where
   -- R-20, L-11: what the reader refuses is refused under its number and changes nothing

@@ -1,4 +1,3 @@
-pub mod Gathering
 pub mod Hearing
 pub mod Promises
 pub mod Valid

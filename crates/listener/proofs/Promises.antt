@@ -13,13 +13,13 @@ use Rattle.telegram.specs.declared.Telegram.{Telegram}
 use Rattle.telegram.proofs.Refusals.{reading-refused, reading-accepted}
 use Rattle.telegram.proofs.Rows.{read-numbered}
 use Rattle.picture.specs.Pictures.{clashes}
-use Rattle.listener.specs.Sets.{begun, setFor, isHeld, joined, isWhole}
+use Rattle.hand.specs.Sets.{begun, setFor, isHeld, joined, isWhole}
 use Rattle.listener.specs.Listeners.{isLast, holding, takenAnswer, takenBy, heardOf, hearOf, clashRow, hearRows, numberOf}
 use Rattle.listener.specs.declared.Answer.{Answer}
 use Rattle.listener.specs.declared.Answer.the-variants.{Refused as refused, Repeat, Held, Taken}
 use Rattle.listener.specs.declared.Heard.{Heard}
 use Rattle.listener.specs.declared.Listener.{Listener}
-use Rattle.listener.specs.declared.sets.Hand.{Hand}
+use Rattle.hand.specs.declared.Hand.{Hand}
 use Rattle.listener.proofs.Hearing.{hear-refused, hear-as, heard-last, heard-copy, heard-part, heard-clash, heard-taken}
 
 -- an answer with a number above 0 is the refusal with that number

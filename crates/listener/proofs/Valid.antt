@@ -16,10 +16,10 @@ use Rattle.telegram.specs.Tables.{tableSlot, firstSlot}
 use Rattle.telegram.specs.Telegrams.{readOf}
 use Rattle.telegram.specs.declared.Telegram.{Telegram}
 use Rattle.telegram.proofs.Valid.{never-invalid}
-use Rattle.listener.specs.Sets.{begun, setFor, joined}
+use Rattle.hand.specs.Sets.{begun, setFor, joined}
 use Rattle.listener.specs.Listeners.{freshListener, takenBy, heardOf, afterReading, hearOf, heardAll}
 use Rattle.listener.specs.declared.Listener.{Listener}
-use Rattle.listener.specs.declared.sets.Hand.{Hand}
+use Rattle.hand.specs.declared.Hand.{Hand}
 use Rattle.listener.proofs.Promises.{ways}
 
 -- every slot is one that a reader can hold

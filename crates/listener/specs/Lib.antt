@@ -1,2 +1,1 @@
 pub mod Listeners
-pub mod Sets

@@ -13,14 +13,14 @@ use Rattle.telegram.specs.Telegrams.{readRows, readOf}
 use Rattle.telegram.specs.declared.Reading.{Reading}
 use Rattle.telegram.specs.declared.Telegram.{Telegram}
 use Rattle.picture.specs.Pictures.{countOf, clashes, marksOf}
-use Rattle.listener.specs.Sets.{begun, setFor, isHeld, joined, isWhole}
+use Rattle.hand.specs.Sets.{begun, setFor, isHeld, joined, isWhole}
 use Rattle.listener.specs.declared.Answer.{Answer}
 use Rattle.listener.specs.declared.Answer.the-variants.{Refused as refused, Repeat, Held, Taken}
 use Rattle.listener.specs.declared.Heard.{Heard}
 use Rattle.listener.specs.declared.Last.{Last}
 use Rattle.listener.specs.declared.Last.the-variants.{Never, Step}
 use Rattle.listener.specs.declared.Listener.{Listener}
-use Rattle.listener.specs.declared.sets.Hand.{Hand}
+use Rattle.hand.specs.declared.Hand.{Hand}
 
 -- L-06: an entry is carried over a gap of 1 to 8
 abbrev pub carries : ℕ

@@ -1,17 +1,14 @@
 // The listener: it hears telegrams of any bytes and holds the picture, the last table that it heard whole, with a mark at each
-// entry that was carried on from the picture before. Packets of a table that is not yet whole are the set in hand (sets).
-mod sets;
-
+// entry that was carried on from the picture before. Packets of a table that is not yet whole are the set in hand.
 use condition::SLOTS;
 use condition::Slot;
-pub use sets::Hand;
+use hand::Hand;
 use telegram::Telegram;
 use wire::Verdict;
 ghost use mathlib.Core.Path.{_≡_};
-ghost use Prim.Native.Nat.{_≤_};
 ghost use Rattle.telegram.specs.Tables.{tableSlot};
 ghost use Rattle.telegram.specs.Telegrams.{readOf};
-ghost use Rattle.listener.specs.Sets.{begun};
+ghost use Rattle.hand.specs.Sets.{begun};
 ghost use Rattle.listener.specs.Listeners.{carries, freshListener, isLast, gapFrom, holding, takenAnswer, takenBy, heardOf, hearOf, markAt};
 
 // The step last taken. That there is none yet is this enum's word, and not that the step number is 0.
@@ -55,7 +52,7 @@ impl Listener {
             picture: [none; 20],
             marks: [false; 20],
             last: Last::Never,
-            hand: sets::begun(0),
+            hand: hand::begun(0),
         }
     }
 
@@ -156,14 +153,13 @@ fn take(listener: Listener, set: Hand) -> Heard
             picture: slots,
             marks,
             last: Last::Step(set.step),
-            hand: sets::begun(0),
+            hand: hand::begun(0),
         },
     }
 }
 
 // A telegram that the reader accepted.
 fn listen(listener: Listener, telegram: Telegram) -> Heard
-    requires { ⌜ (3 ≤ telegram .packet) × (telegram .packet ≤ 7) ⌝ }
     ensures { λ r. ⌜ r ≡ heardOf carries listener telegram ⌝ }
 {
     let last = listener.last;
@@ -174,15 +170,15 @@ fn listen(listener: Listener, telegram: Telegram) -> Heard
         };
     }
     let hand = listener.hand;
-    let set = sets::set_for(hand, telegram.step);
-    if sets::is_held(set, telegram.packet) {
+    let set = hand::set_for(hand, telegram.step);
+    if hand::is_held(set, telegram.packet) {
         return Heard {
             answer: Answer::Repeat,
             listener,
         };
     }
-    let with_it = sets::joined(set, telegram);
-    if !sets::is_whole(with_it) {
+    let with_it = hand::joined(set, telegram);
+    if !hand::is_whole(with_it) {
         return Heard {
             answer: Answer::Held,
             listener: holding(listener, with_it),
@@ -192,7 +188,7 @@ fn listen(listener: Listener, telegram: Telegram) -> Heard
     if picture::clashes(slots) {
         return Heard {
             answer: Answer::Refused(15),
-            listener: holding(listener, sets::begun(0)),
+            listener: holding(listener, hand::begun(0)),
         };
     }
     take(listener, with_it)

@@ -23,7 +23,7 @@ use Rattle.telegram.specs.Telegrams.{readOf, readRows, codedAt, takenBefore, te
 use Rattle.desk.specs.Desks.{rest, tableOf, telegramOf as deskTelegram}
 use Rattle.picture.specs.Pictures.{countOf, hasNumber, isTwice, clashes, isSame, isKnown, isCarried, marksOf}
 use Rattle.listener.specs.Listeners.{carries, heardAll, freshListener, takenBy, heardOf, hearOf}
-use Rattle.listener.specs.Sets.{begun, setFor, isHeld, joined, isWhole}
+use Rattle.hand.specs.Sets.{begun, setFor, isHeld, joined, isWhole}
 use Rattle.listener.specs.declared.Answer.{Answer}
 use Rattle.listener.specs.declared.Answer.the-variants.{Repeat, Held, Taken}
 use Rattle.claims.specs.Calls.{tableIn}

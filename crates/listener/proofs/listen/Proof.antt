@@ -5,12 +5,12 @@ use borrow.Author.Needs.{needs}
 use borrow.Author.Tests.{not-true, not-false}
 use Rattle.telegram.specs.declared.Telegram.{Telegram}
 use Rattle.picture.specs.Pictures.{clashes}
-use Rattle.listener.specs.Sets.{begun, setFor, isHeld, joined, isWhole}
+use Rattle.hand.specs.Sets.{begun, setFor, isHeld, joined, isWhole}
 use Rattle.listener.specs.Listeners.{carries, isLast, holding, takenAnswer, takenBy, heardOf}
 use Rattle.listener.specs.declared.Answer.the-variants.{Refused, Held}
 use Rattle.listener.specs.declared.Heard.{Heard}
 use Rattle.listener.specs.declared.Listener.{Listener}
-use Rattle.listener.specs.declared.sets.Hand.{Hand}
+use Rattle.hand.specs.declared.Hand.{Hand}
 use Rattle.listener.proofs.Hearing.{heard-last, heard-copy, heard-part, heard-clash, heard-taken}
 use Rattle.listener.proofs.listen.Statement.{statement}
 use Rattle.listener.proofs.listen.Tie as tie

@@ -9,8 +9,8 @@ use Rattle.listener.specs.declared.Answer.the-variants.{Taken}
 use Rattle.listener.specs.declared.Heard.{Heard}
 use Rattle.listener.specs.declared.Last.the-variants.{Step}
 use Rattle.listener.specs.declared.Listener.{Listener}
-use Rattle.listener.specs.declared.sets.Hand.{Hand}
-use Rattle.listener.specs.Sets.{begun}
+use Rattle.hand.specs.declared.Hand.{Hand}
+use Rattle.hand.specs.Sets.{begun}
 use Rattle.listener.specs.Listeners.{carries, gapFrom, takenAnswer, takenBy}
 use Rattle.listener.proofs.take.Statement.{statement}
 use Rattle.listener.proofs.take.Tie as tie

@@ -1,25 +1,11 @@
 -- `Listener::hear`: by the verdict of reading.
-use Prim.Native.Nat.{ℕ, _≤_}
-use mathlib.Core.List.{List}
-use mathlib.Core.Path.{_≡_, sym, ap, _∙_, subst}
+use mathlib.Core.Path.{sym, ap, _∙_}
 use borrow.Author.Needs.{needs}
-use Rattle.kit.specs.Bytes.{Bytes}
-use Rattle.wire.specs.declared.verdicts.Verdict.the-variants.{Accepted}
-use Rattle.telegram.specs.Telegrams.{readOf}
-use Rattle.telegram.specs.declared.Reading.{Reading}
-use Rattle.telegram.proofs.Valid.{accepted-sendable}
 use Rattle.listener.specs.Listeners.{carries, hearOf}
 use Rattle.listener.specs.declared.Listener.{Listener}
 use Rattle.listener.proofs.Hearing.{hear-refused, hear-as}
 use Rattle.listener.proofs.Listener.hear.Statement.{statement}
 use Rattle.listener.proofs.Listener.hear.Tie as tie
-
--- what is accepted has a packet number from 3 to 7
-packet-heard : (bytes : List ℕ) {reading : Reading} → reading ≡ readOf bytes → Bytes bytes → reading .verdict ≡ Accepted
-    → (3 ≤ reading .telegram .packet) × (reading .telegram .packet ≤ 7)
-packet-heard bytes r fits e =
-    let s = accepted-sendable bytes fits (ap (λ (x : Reading). x .verdict) (sym r) ∙ e) in
-    subst (λ (x : Reading). (3 ≤ x .telegram .packet) × (x .telegram .packet ≤ 7)) (sym r) (s .packet-from, s .packet-to)
 
 read-requires : tie.Need-read-requires
 read-requires c κs = search needs
@@ -31,9 +17,7 @@ enum-told : tie.Need-enum-told
 enum-told c = search needs
 
 listen-requires : tie.Need-listen-requires
-listen-requires c κs =
-    let reader = c .before .before in
-    packet-heard (reader .before .before .args .telegram .now) (reader .read .ensures) (λ i. reader .before .shared-slice-known .given i .fits) (c .enum-told .given .1)
+listen-requires c κs = search needs
 
 returns : tie.Need-returns
 returns c =

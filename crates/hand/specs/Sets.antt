@@ -8,7 +8,7 @@ use Rattle.kit.specs.Loops.{count}
 use Rattle.condition.specs.Slots.{emptySlot, slots}
 use Rattle.telegram.specs.Tables.{packets, firstPacket, firstSlot}
 use Rattle.telegram.specs.declared.Telegram.{Telegram}
-use Rattle.listener.specs.declared.sets.Hand.{Hand}
+use Rattle.hand.specs.declared.Hand.{Hand}
 
 -- L-03: a set that begins: its step number, none of five packets held, nothing known of twenty slots
 unfoldable pub begun : ℕ → Hand

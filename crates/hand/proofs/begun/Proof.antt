@@ -1,8 +1,8 @@
 -- `begun`: five times not held, and twenty times the empty slot.
 use borrow.Author.Needs.{needs}
-use Rattle.listener.specs.Sets.{begun}
-use Rattle.listener.proofs.sets.begun.Statement.{statement}
-use Rattle.listener.proofs.sets.begun.Tie as tie
+use Rattle.hand.specs.Sets.{begun}
+use Rattle.hand.proofs.begun.Statement.{statement}
+use Rattle.hand.proofs.begun.Tie as tie
 
 empty-requires : tie.Need-empty-requires
 empty-requires c κs = search needs

@@ -11,10 +11,10 @@ use borrow.Author.Tests.{eq-eqb, ne-eqb, eqb-true, eqb-false, not-true, not-fals
 use Rattle.kit.proofs.Cases.{on, clash}
 use Rattle.kit.proofs.Loops.{count-all, all-counted}
 use Rattle.telegram.specs.Tables.{packets}
-use Rattle.listener.specs.Sets.{isWhole}
-use Rattle.listener.specs.declared.sets.Hand.{Hand}
-use Rattle.listener.proofs.sets.is_whole.Statement.{statement}
-use Rattle.listener.proofs.sets.is_whole.Tie as tie
+use Rattle.hand.specs.Sets.{isWhole}
+use Rattle.hand.specs.declared.Hand.{Hand}
+use Rattle.hand.proofs.is_whole.Statement.{statement}
+use Rattle.hand.proofs.is_whole.Tie as tie
 
 -- the first k packets are held
 abbrev AllHeld : List Bool → ℕ → Type 0

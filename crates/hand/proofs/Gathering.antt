@@ -18,8 +18,8 @@ use Rattle.condition.specs.Slots.{emptySlot, slots}
 use Rattle.condition.specs.declared.slots.Slot.{Slot}
 use Rattle.telegram.specs.Tables.{tableSlot, packets, firstPacket, firstSlot, fourOf}
 use Rattle.telegram.proofs.Carried.{four-at, four-long}
-use Rattle.listener.specs.Sets.{begun, setFor, isHeld, joined, isWhole}
-use Rattle.listener.specs.declared.sets.Hand.{Hand}
+use Rattle.hand.specs.Sets.{begun, setFor, isHeld, joined, isWhole}
+use Rattle.hand.specs.declared.Hand.{Hand}
 
 -- packet k, 0 to 4 for 3 to 7, of the table is in the set exactly when `got k`
 pub record Gathered (table : List Slot) (step : ℕ) (got : ℕ → Bool) (hand : Hand) : Type 0 where

@@ -1,9 +1,9 @@
 -- `set_for`: by whether the set in hand has the step number.
 use borrow.Author.Needs.{needs}
 use borrow.Author.Tests.{eq-eqb, ne-eqb}
-use Rattle.listener.specs.Sets.{setFor}
-use Rattle.listener.proofs.sets.set_for.Statement.{statement}
-use Rattle.listener.proofs.sets.set_for.Tie as tie
+use Rattle.hand.specs.Sets.{setFor}
+use Rattle.hand.proofs.set_for.Statement.{statement}
+use Rattle.hand.proofs.set_for.Tie as tie
 
 returns : tie.Need-returns
 unfolding setFor
