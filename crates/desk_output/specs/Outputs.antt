@@ -2,6 +2,7 @@
 use Prim.Native.Nat.{ℕ}
 use mathlib.Core.List.{List, [], _∷_, _++_}
 use Rattle.text.specs.Decimals.{decimal}
+use Rattle.text.specs.Words.{refusedWord}
 use Rattle.telegram.specs.Telegrams.{bytesOf}
 use Rattle.desk.specs.Desks.{telegramOf}
 use Rattle.desk.specs.declared.Desk.{Desk}
@@ -11,10 +12,6 @@ unfoldable pub tableBytes : Desk → List ℕ
 tableBytes desk =
     bytesOf (telegramOf desk 3)
     ++ (bytesOf (telegramOf desk 4) ++ (bytesOf (telegramOf desk 5) ++ (bytesOf (telegramOf desk 6) ++ bytesOf (telegramOf desk 7))))
-
--- "refused "
-abbrev pub refusedWord : List ℕ
-refusedWord = 114 ∷ 101 ∷ 102 ∷ 117 ∷ 115 ∷ 101 ∷ 100 ∷ 32 ∷ []
 
 -- " at list "
 abbrev pub atListWords : List ℕ

@@ -6,6 +6,7 @@ use native.Mathlib.Omega.{arith}
 use Rattle.kit.specs.Each.{each}
 use Rattle.kit.proofs.Each.{length-each-most}
 use Rattle.text.specs.Decimals.{decimal}
+use Rattle.text.specs.Words.{refusedWord}
 use Rattle.text.proofs.Numerals.{decimal-byte}
 use Rattle.state_words.specs.Words.{cabWord, brakeWord, tractionWord}
 use Rattle.state_words.proofs.Length.{cab-short, brake-short, isolation-short, traction-short}
@@ -16,12 +17,12 @@ use Rattle.signals.specs.Signals.{numberOf}
 use Rattle.signals.specs.declared.Answer.{Answer}
 use Rattle.signals.specs.declared.Answer.the-variants.{Accepted, Missed, Refused}
 use Rattle.signals.specs.declared.Updated.{Updated}
-use Rattle.signals_output.specs.Lines.{refused, answerWords, missesWord, systemWord, stateWords, lineOf}
+use Rattle.signals_output.specs.Lines.{answerWords, missesWord, systemWord, stateWords, lineOf}
 
 answer-short : (answer : Answer) → numberOf answer < 256 → length (answerWords answer) ≤ 11
 answer-short Accepted p = omega arith
 answer-short Missed p = omega arith
-answer-short (Refused number) p = omega (arith, length-append refused (decimal number), decimal-byte number p)
+answer-short (Refused number) p = omega (arith, length-append refusedWord (decimal number), decimal-byte number p)
 
 states-short : (states : States) → length (stateWords states) ≤ 237
 unfolding stateWords

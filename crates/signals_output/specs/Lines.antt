@@ -4,6 +4,7 @@ use mathlib.Core.List.{List, [], _∷_, _++_}
 use lib.ListN.{getD}
 use Rattle.kit.specs.Each.{each}
 use Rattle.text.specs.Decimals.{decimal}
+use Rattle.text.specs.Words.{refusedWord}
 use Rattle.state_words.specs.Words.{blank, cabWord, brakeWord, isolationWord, tractionWord}
 use Rattle.train_telegram.specs.States.{systemWith}
 use Rattle.train_codes.specs.declared.Isolation.the-variants as Isolation′
@@ -21,17 +22,13 @@ accepted = 97 ∷ 99 ∷ 99 ∷ 101 ∷ 112 ∷ 116 ∷ 101 ∷ 100 ∷ []
 abbrev pub missed : List ℕ
 missed = 109 ∷ 105 ∷ 115 ∷ 115 ∷ 101 ∷ 100 ∷ []
 
--- "refused "
-abbrev pub refused : List ℕ
-refused = 114 ∷ 101 ∷ 102 ∷ 117 ∷ 115 ∷ 101 ∷ 100 ∷ 32 ∷ []
-
 -- ---- the line
 
 -- S-13, S-14: the answer: `accepted`, `missed` or `refused N`
 abbrev pub answerWords : Answer → List ℕ
 answerWords Accepted = accepted
 answerWords Missed = missed
-answerWords (Refused number) = refused ++ decimal number
+answerWords (Refused number) = refusedWord ++ decimal number
 
 -- S-18: the miss count
 abbrev pub missesWord : ℕ → List ℕ
