@@ -19,7 +19,7 @@ use Rattle.train_telegram.specs.declared.states.National.{National}
 module _ (isolated inverse : ℕ) where
   pub national-long : length (nationalOf isolated inverse) ≡ 16
   unfolding nationalOf
-  national-long = length-one-each (λ i. systemWith (isolationOf (bit i isolated) (bit i inverse))) 16
+  national-long = length-one-each _ 16
 
   pub national-at : (other : National) (i : ℕ) → i < 16 → getD (nationalOf isolated inverse) i other ≡ systemWith (isolationOf (bit i isolated) (bit i inverse))
   unfolding nationalOf
