@@ -56,10 +56,9 @@ use Rattle.signals.proofs.Answer as Said
 use Rattle.signals.proofs.Answer.Laws as SaidLaws
 use Rattle.signals_in_place.proofs.update as place
 use Rattle.signals_in_place.proofs.update.Symbol as place-def
-use Rattle.signals_in_place.proofs.update.Symbol.{name as #signals-in-place·update}
 use Rattle.signals_in_place.proofs.update.Met as place-thm
 use Rattle.signals_in_place.proofs.Machine.{held-value, held-values, both-value, both-of, knows-both}
-use Rattle.signals_in_place.proofs.lend_and_update.Key.{name as #signals-in-place·lend-and-update}
+use Rattle.signals_in_place.proofs.lend_and_update.Key as key
 use Rattle.signals_in_place.proofs.lend_and_update as here
 use Rattle.signals_in_place.proofs.lend_and_update.Statement as stated
 use Rattle.signals_in_place.proofs.lend_and_update.Code as code
@@ -133,7 +132,7 @@ module _ {M : Type 1} (𝓤 : URA M) (H : Heap 𝓤) (A : Atoms 𝓤) (W : Given
       says ! (λ i. both-of (e .0 i) (e .1 i)) $ frame ! $ nothing ! $ move ! (1 ∷ 0 ∷ []) $ fjoin ! $ owned ! bool (Is bool) (bool-makes 𝓤 H A W) present _ refl $ fjoin ! $
       owned ! Held.the-row (Is Held.the-row) (StructLaws.makes Held.the-type HeldLaws.the-plain 𝓤 H A) held _ was $ fjoin ! $ frame ! $ owned ! Both.the-row (Is Both.the-row) (StructLaws.makes Both.the-type BothLaws.the-plain 𝓤 H A) (both-of r y) _ is $ done !
 
-  module _ (C : Calls 𝓤 H) (Λ : Loops 𝓤 H) (fm : FmC 𝓤 H (W .laws) C) (known : Triple 𝓤 (C #signals-in-place·update) (Place 𝓤 H A at-mem run)) where
+  module _ (C : Calls 𝓤 H) (Λ : Loops 𝓤 H) (fm : FmC 𝓤 H (W .laws) C) (known : Triple 𝓤 (C place-def.name) (Place 𝓤 H A at-mem run)) where
     walk : Is Held.the-row held (held-values held) → Is (ShrSlice (named 0) κ u8) telegram (slice ∷ []) → ent 𝓤 (onEntry 𝓤 H A here.signature (κ, tt) (q, tt) args-here values) (WpFn 𝓤 H C Λ code.function (held-value held ∷ vbool present ∷ slice ∷ []) Post)
     walk was sl =
         qed W ((‵ (flft κ q) ⊛ ‵ ftrue) ∷ ‵ (owns (Held.the-row ∷ bool ∷ ShrSlice (named 0) κ u8 ∷ []) args-here values) ∷ []) ∵ enter ! C Λ code.function (held-value held ∷ vbool present ∷ slice ∷ []) _ $
@@ -176,13 +175,13 @@ module _ {M : Type 1} (𝓤 : URA M) (H : Heap 𝓤) (A : Atoms 𝓤) (W : Given
         by ! (exits r (zs .0) e was (knows-both r (zs .0) (EnumLaws.owes Said.the-type SaidLaws.the-laws r (EnumLaws.owed Said.the-type SaidLaws.the-laws r _ is)) now-is))))))))))))))))))
 
 module _ {M : Type 1} (𝓤 : URA M) (H : Heap 𝓤) (A : Atoms 𝓤) (W : Given 𝓤 H A) (mem : Memory → SProp 𝓤) (run : Routine → Fun 𝓤) where
-  here-walks : (C : Calls 𝓤 H) (Λ : Loops 𝓤 H) → FmC 𝓤 H (W .laws) C → Triple 𝓤 (C #signals-in-place·update) (Place 𝓤 H A mem run)
+  here-walks : (C : Calls 𝓤 H) (Λ : Loops 𝓤 H) → FmC 𝓤 H (W .laws) C → Triple 𝓤 (C place-def.name) (Place 𝓤 H A mem run)
       → Walks 𝓤 H A here.ended stayed (WpFn 𝓤 H C Λ code.function) (here.clauses 𝓤 H A mem run)
   here-walks C Λ fm known = walked 𝓤 H A here.ended stayed (here.clauses 𝓤 H A mem run) (WpFn 𝓤 H C Λ code.function) (λ κs. (held-values, (bool-vals, (slice-vals, tt)))) (λ κs. (StructLaws.tells Held.the-type HeldLaws.the-laws, (bool-tells, (shr-slice-tells (named 0) (κs .0) u8, tt))))
       (λ κs qs bounds a g are. via 𝓤 _ (fst∗ 𝓤 _ (emp 𝓤)) (walk 𝓤 H A W mem run (κs .0) (qs .0) (a .0) (a .1 .0) (a .1 .1 .0) C Λ fm known (are .0) (are .1 .1 .0)))
 
 here-meets : {M : Type 1} (𝓤 : URA M) (H : Heap 𝓤) (A : Atoms 𝓤) (W : Given 𝓤 H A) (mem : Memory → SProp 𝓤) (run : Routine → Fun 𝓤) (𝓣 : Tables 𝓤 H)
-    → Triple 𝓤 (𝓣 .C #signals-in-place·update) (Place 𝓤 H A mem run)
+    → Triple 𝓤 (𝓣 .C place-def.name) (Place 𝓤 H A mem run)
     → Meets 𝓤 H A here.signature (WpFn 𝓤 H (𝓣 .C) (𝓣 .Λ) code.function) (here.spec 𝓤 H A mem run)
 here-meets 𝓤 H A W mem run 𝓣 known =
     walk-meets 𝓤 H A here.ended stayed W (goes-none 𝓤 H A W 1 (λ _. Held.the-row) yes (λ κs x f. refl), (goes-none 𝓤 H A W 1 (λ _. bool) yes (λ κs x f. refl), (goes-none-slice 𝓤 H A W 1 (0 ∷ []) tt (plain (λ _. u8)) yes, tt))) (here.clauses 𝓤 H A mem run)
@@ -192,6 +191,6 @@ pub lend-and-update-spec : {M : Type 1} → stated.statement M
 unfolding code.routine tablesOf
 lend-and-update-spec 𝓤 H 𝓜 𝓖 𝓡 =
     entered 𝓤 H (tripleOf 𝓤 H (𝓖 .A) here.signature (here.spec 𝓤 H (𝓖 .A) (𝓜 .mem) (𝓡 .run)))
-    (tables 𝓤 H 𝓜 𝓡 code.env .C) (tables 𝓤 H 𝓜 𝓡 code.env .Λ) #signals-in-place·lend-and-update code.function (code.unfolded 𝓤 H 𝓜 𝓡)
+    (tables 𝓤 H 𝓜 𝓡 code.env .C) (tables 𝓤 H 𝓜 𝓡 code.env .Λ) key.name code.function (code.unfolded 𝓤 H 𝓜 𝓡)
     (here-meets 𝓤 H (𝓖 .A) (givenOf 𝓤 H 𝓜 𝓖) (𝓜 .mem) (𝓡 .run) (tablesOf 𝓤 H 𝓜 (tables 𝓤 H 𝓜 𝓡 code.env))
-    (cited 𝓤 H (Place 𝓤 H (𝓖 .A) (𝓜 .mem) (𝓡 .run)) 𝓜 𝓡 code.env #signals-in-place·update place-def.routine code.calls-signals-in-place·update (place-thm.met 𝓤 H 𝓜 𝓖 𝓡)))
+    (cited 𝓤 H (Place 𝓤 H (𝓖 .A) (𝓜 .mem) (𝓡 .run)) 𝓜 𝓡 code.env place-def.name place-def.routine code.calls-signals-in-place·update (place-thm.met 𝓤 H 𝓜 𝓖 𝓡)))

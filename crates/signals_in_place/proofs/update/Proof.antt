@@ -56,10 +56,9 @@ use Rattle.signals.proofs.Answer as Said
 use Rattle.signals.proofs.Answer.Laws as SaidLaws
 use Rattle.signals.proofs.Signals.update as update
 use Rattle.signals.proofs.Signals.update.Symbol as update-def
-use Rattle.signals.proofs.Signals.update.Symbol.{name as #signals·Signals·update}
 use Rattle.signals.proofs.Signals.update.Met as update-thm
 use Rattle.signals_in_place.proofs.Machine.{held-values, answer-value, knows-answer, knows-held}
-use Rattle.signals_in_place.proofs.update.Key.{name as #signals-in-place·update}
+use Rattle.signals_in_place.proofs.update.Key as key
 use Rattle.signals_in_place.proofs.update as here
 use Rattle.signals_in_place.proofs.update.Statement as stated
 use Rattle.signals_in_place.proofs.update.Code as code
@@ -119,7 +118,7 @@ module _ {M : Type 1} (𝓤 : URA M) (H : Heap 𝓤) (A : Atoms 𝓤) (W : Given
       frame ! $ feqI ! (List Val) (vptr b o ∷ []) (vptr b o ∷ []) refl $ fjoin3 ! $ nothing ! $ move ! (2 ∷ 0 ∷ []) $ fjoin ! $ owned ! bool (Is bool) (bool-makes 𝓤 H A W) present _ refl $ fjoin ! $ move ! (1 ∷ 0 ∷ []) $ fjoin ! $
       frame ! $ owned ! Said.the-row (Is Said.the-row) (EnumLaws.makes Said.the-type SaidLaws.the-plain 𝓤 H A) (r .answer) _ is $ done !
 
-  module _ (C : Calls 𝓤 H) (Λ : Loops 𝓤 H) (fm : FmC 𝓤 H (W .laws) C) (known : Triple 𝓤 (C #signals·Signals·update) (Update 𝓤 H A at-mem run)) where
+  module _ (C : Calls 𝓤 H) (Λ : Loops 𝓤 H) (fm : FmC 𝓤 H (W .laws) C) (known : Triple 𝓤 (C update-def.name) (Update 𝓤 H A at-mem run)) where
     walk : Is (ShrSlice (named 1) κ′ u8) telegram (slice ∷ []) → ent 𝓤 (onEntry 𝓤 H A here.signature (κ, (κ′, tt)) (q, (q′, tt)) args-here values) (WpFn 𝓤 H C Λ code.function (vptr b o ∷ vbool present ∷ slice ∷ []) Post)
     walk sl =
         qed W ((‵ (flft κ q) ⊛ ‵ (flft κ′ q′) ⊛ ‵ ftrue) ∷ ‵ (owns (MutRef (named 0) κ Held.the-row ∷ bool ∷ ShrSlice (named 1) κ′ u8 ∷ []) args-here values) ∷ []) ∵ enter ! C Λ code.function (vptr b o ∷ vbool present ∷ slice ∷ []) _ $
@@ -159,13 +158,13 @@ module _ {M : Type 1} (𝓤 : URA M) (H : Heap 𝓤) (A : Atoms 𝓤) (W : Given
         by ! (exits r e (knows-answer r u is))))))))))))))
 
 module _ {M : Type 1} (𝓤 : URA M) (H : Heap 𝓤) (A : Atoms 𝓤) (W : Given 𝓤 H A) (mem : Memory → SProp 𝓤) (run : Routine → Fun 𝓤) where
-  here-walks : (C : Calls 𝓤 H) (Λ : Loops 𝓤 H) → FmC 𝓤 H (W .laws) C → Triple 𝓤 (C #signals·Signals·update) (Update 𝓤 H A mem run)
+  here-walks : (C : Calls 𝓤 H) (Λ : Loops 𝓤 H) → FmC 𝓤 H (W .laws) C → Triple 𝓤 (C update-def.name) (Update 𝓤 H A mem run)
       → Walks 𝓤 H A here.ended stayed (WpFn 𝓤 H C Λ code.function) (here.clauses 𝓤 H A mem run)
   here-walks C Λ fm known = walked 𝓤 H A here.ended stayed (here.clauses 𝓤 H A mem run) (WpFn 𝓤 H C Λ code.function) (λ κs. (ptr-vals, (bool-vals, (slice-vals, tt)))) (λ κs. (mut-tells (named 0) (κs .0) Held.the-row, (bool-tells, (shr-slice-tells (named 1) (κs .1 .0) u8, tt))))
       (λ κs qs bounds a g are. via 𝓤 _ (fst∗ 𝓤 _ (emp 𝓤)) (walk 𝓤 H A W mem run (κs .0) (κs .1 .0) (qs .0) (qs .1 .0) bounds (a .0 .ptr .0) (a .0 .ptr .1) (a .0 .name) (a .0 .now) (a .1 .0) (a .1 .1 .0) C Λ fm known (are .1 .1 .0)))
 
 here-meets : {M : Type 1} (𝓤 : URA M) (H : Heap 𝓤) (A : Atoms 𝓤) (W : Given 𝓤 H A) (mem : Memory → SProp 𝓤) (run : Routine → Fun 𝓤) (𝓣 : Tables 𝓤 H)
-    → Triple 𝓤 (𝓣 .C #signals·Signals·update) (Update 𝓤 H A mem run)
+    → Triple 𝓤 (𝓣 .C update-def.name) (Update 𝓤 H A mem run)
     → Meets 𝓤 H A here.signature (WpFn 𝓤 H (𝓣 .C) (𝓣 .Λ) code.function) (here.spec 𝓤 H A mem run)
 here-meets 𝓤 H A W mem run 𝓣 known =
     walk-meets 𝓤 H A here.ended stayed W (goes-ref 𝓤 H A W 2 0 tt (plain (λ _. Held.the-row)), (goes-none 𝓤 H A W 2 (λ _. bool) yes (λ κs x f. refl), (goes-none-slice 𝓤 H A W 2 (1 ∷ []) tt (plain (λ _. u8)) yes, tt))) (here.clauses 𝓤 H A mem run)
@@ -175,6 +174,6 @@ pub update-spec : {M : Type 1} → stated.statement M
 unfolding code.routine tablesOf
 update-spec 𝓤 H 𝓜 𝓖 𝓡 =
     entered 𝓤 H (tripleOf 𝓤 H (𝓖 .A) here.signature (here.spec 𝓤 H (𝓖 .A) (𝓜 .mem) (𝓡 .run)))
-    (tables 𝓤 H 𝓜 𝓡 code.env .C) (tables 𝓤 H 𝓜 𝓡 code.env .Λ) #signals-in-place·update code.function (code.unfolded 𝓤 H 𝓜 𝓡)
+    (tables 𝓤 H 𝓜 𝓡 code.env .C) (tables 𝓤 H 𝓜 𝓡 code.env .Λ) key.name code.function (code.unfolded 𝓤 H 𝓜 𝓡)
     (here-meets 𝓤 H (𝓖 .A) (givenOf 𝓤 H 𝓜 𝓖) (𝓜 .mem) (𝓡 .run) (tablesOf 𝓤 H 𝓜 (tables 𝓤 H 𝓜 𝓡 code.env))
-    (cited 𝓤 H (Update 𝓤 H (𝓖 .A) (𝓜 .mem) (𝓡 .run)) 𝓜 𝓡 code.env #signals·Signals·update update-def.routine code.calls-signals·Signals·update (update-thm.met 𝓤 H 𝓜 𝓖 𝓡)))
+    (cited 𝓤 H (Update 𝓤 H (𝓖 .A) (𝓜 .mem) (𝓡 .run)) 𝓜 𝓡 code.env update-def.name update-def.routine code.calls-signals·Signals·update (update-thm.met 𝓤 H 𝓜 𝓖 𝓡)))
