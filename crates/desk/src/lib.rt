@@ -1,18 +1,15 @@
 // The desk: twenty places, the numbers that ended lately, the last number given and the step number. Each accepted list makes one
-// step: orders that are absent leave (leaving), new ones arrive (arriving). The table that stands after it is written as telegrams.
+// step: orders that are absent leave (leaving), new ones arrive (arriving).
 mod arriving;
 mod leaving;
 
 use arriving::Seats;
-use condition::Slot;
 use numbers::Ended;
 use orders::Place;
-use telegram::Telegram;
 use wire::Verdict;
 ghost use mathlib.Core.Path.{_≡_};
-ghost use Rattle.telegram.specs.Telegrams.{writeVerdict, written};
 ghost use Rattle.orders.specs.Orders.{listRefusal};
-ghost use Rattle.desk.specs.Desks.{rest, freshDesk, acceptOf, tableOf, telegramOf, Made};
+ghost use Rattle.desk.specs.Desks.{rest, freshDesk, acceptOf, Made};
 ghost use Rattle.desk.specs.Steps.{stepOf};
 
 // The ended numbers stand by the step in which they ended, the newest first, and within a step by slot.
@@ -70,36 +67,6 @@ impl Desk {
             verdict: Verdict::Accepted,
             desk: advance(self, list),
         }
-    }
-
-    // The twenty slots.
-    pub fn table(self) -> [Slot; 20]
-        ensures { λ r. ⌜ r ≡ tableOf self ⌝ }
-    {
-        let places = self.places;
-        let mut table = [Slot::empty(); 20];
-        let mut i: usize = 0;
-        while i < Desk::SLOTS {
-            let place = places[i];
-            let slot = place.slot;
-            table[i] = slot;
-            i += 1;
-        }
-        table
-    }
-
-    // Writes one packet of the table into a buffer of any length, or refuses and leaves the buffer as it is.
-    pub fn write(self, packet: u8, buffer: &mut [u8]) -> Verdict
-        ensures { λ r. ⌜ (r ≡ writeVerdict (telegramOf self packet) (now (buffer .entry)))
-            × (now (buffer .exit) ≡ written (telegramOf self packet) (now (buffer .entry))) ⌝ }
-    {
-        let table = self.table();
-        let telegram = Telegram {
-            packet,
-            step: self.step,
-            slots: telegram::four_of(table, packet),
-        };
-        telegram_writer::write(telegram, buffer)
     }
 }
 

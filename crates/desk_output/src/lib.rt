@@ -13,7 +13,7 @@ fn put_packet(desk: Desk, packet: u8, out: &mut [u8], at: usize) -> usize
     ensures { λ r. ⌜ Poured (now (out .entry)) at (bytesOf (telegramOf desk packet)) (now (out .exit)) r ⌝ }
 {
     let mut bytes = [0u8; 26];
-    desk.write(packet, &mut bytes);
+    desk_writer::write(desk, packet, &mut bytes);
     text::put_words(out, at, &bytes)
 }
 

@@ -1,4 +1,4 @@
--- `Desk::table`: the loop fills the array with the places' slots.
+-- `table_of`: the loop fills the array with the places' slots.
 use Prim.Native.Nat.{_-_, _<_, _≤_}
 use mathlib.Core.List.{map}
 use mathlib.Core.Path.{_≡_, refl, sym, _∙_}
@@ -11,9 +11,9 @@ use Rattle.condition.specs.Slots.{emptySlot, slots}
 use Rattle.condition.specs.declared.slots.Slot.{Slot}
 use Rattle.orders.specs.Orders.{freePlace}
 use Rattle.orders.specs.declared.Place.{Place}
 use Rattle.desk.specs.Desks.{tableOf}
-use Rattle.desk.proofs.Desk.table.Statement.{statement}
-use Rattle.desk.proofs.Desk.table.Tie as tie
+use Rattle.desk_writer.proofs.table_of.Statement.{statement}
+use Rattle.desk_writer.proofs.table_of.Tie as tie
 
 abbrev slot : Place → Slot
 slot place = place .slot
@@ -24,8 +24,8 @@ Inv-loop places table₀ i₀ table i = (i ≤ slots) × Filled emptySlot (map s
 abbrev μ-loop : tie.MeasureT-loop
 μ-loop places table₀ i₀ table i = slots - i
 
-twenty : (start : tie.Start Inv-loop μ-loop) → length (start .args .self .places) ≡ slots
-twenty start = sym (length-map (start .args .self .places) _) ∙ start .good .0 .1 .1 .0 .1 .0 .1
+twenty : (start : tie.Start Inv-loop μ-loop) → length (start .args .desk .places) ≡ slots
+twenty start = sym (length-map (start .args .desk .places) _) ∙ start .good .0 .1 .1 .0 .1 .0 .1
 
 empty-requires : tie.Need-empty-requires Inv-loop μ-loop
 empty-requires c κs = search needs
@@ -33,7 +33,7 @@ empty-requires c κs = search needs
 loop-holds : tie.Need-loop-holds Inv-loop μ-loop
 loop-holds c =
     let start = c .before .before in
-    (search needs, mapped-none slot (start .args .self .places) (sym (twenty start)))
+    (search needs, mapped-none slot (start .args .desk .places) (sym (twenty start)))
 
 mul-place : tie.Need-mul-place Inv-loop μ-loop
 mul-place c = search needs
@@ -57,7 +57,7 @@ loop-again : tie.Need-loop-again Inv-loop μ-loop
 loop-again c =
     let l = c .before .before .before .loop in
     let start = c .before .before .before .before .before .before in
-    let places = start .args .self .places in
+    let places = start .args .desk .places in
     let p : l .i < slots = search needs in
     (search needs, mapped-more slot places freePlace (omega (arith, twenty start)) (l .inv .1) refl)
 
@@ -67,10 +67,10 @@ returns c =
     let l = c .before .loop in
     let start = c .before .before .before .before in
     let past : slots ≤ l .i = search needs in
-    mapped-all slot (start .args .self .places) (omega (arith, twenty start)) (l .inv .1)
+    mapped-all slot (start .args .desk .places) (omega (arith, twenty start)) (l .inv .1)
 
-pub table-spec : {M : Type 1} → statement M
-table-spec =
+pub table-of-spec : {M : Type 1} → statement M
+table-of-spec =
     tie.close
     (tie.spec
     Inv-loop
