@@ -8,8 +8,10 @@ use lib.Seq.{sets, sets-eq, length-sets, length-take-le}
 use native.Mathlib.Nat.{add-zero}
 use native.Mathlib.Omega.{arith}
 use borrow.Author.Tests.{leb-true, leb-false}
+use Rattle.kit.specs.Each.{each}
 use Rattle.kit.specs.Put.{Put, Poured}
 use Rattle.kit.proofs.Cases.{on}
+use Rattle.kit.proofs.Each.{each-more}
 use Rattle.kit.proofs.Stores.{sets-past}
 
 sets-append : (l : List ℕ) (i : ℕ) (a b : List ℕ) → sets (sets l i a) (i + length a) b ≡ sets l i (a ++ b)
@@ -78,6 +80,12 @@ poured-counts {l} {m} {i} {j} p = sym (length-take-le j m (omega (arith, p .past
 -- the same bytes under another name
 pub poured-as : {l m : List ℕ} {i j : ℕ} {a b : List ℕ} → a ≡ b → Poured l i b m j → Poured l i a m j
 poured-as {l} {m} {i} {j} e p = subst (λ (bytes : List ℕ). Poured l i bytes m j) (sym e) p
+
+-- one thing's bytes after those of the i things before it
+pub poured-each : (of : ℕ → List ℕ) (i : ℕ) {l m n : List ℕ} {at j k : ℕ} → Poured l at (each of 0 i) m j → Poured m j (of i) n k → Poured l at (each of 0 (i + 1)) n k
+poured-each of i a b =
+    let here : 0 + i ≡ i = omega arith in
+    poured-as (each-more of 0 i ∙ ap (λ x. each of 0 i ++ of x) here) (poured-then a b)
 
 -- where there is room for all of them, all are put
 pub poured-put : {l m : List ℕ} {i j : ℕ} {a : List ℕ} → i + length a ≤ length l → Poured l i a m j → Put l i a m j

@@ -1,23 +1,13 @@
 -- `put_national`: after i turns the words of the first i systems are put.
-use Prim.Native.Nat.{ℕ, _+_, _-_, _≤_}
-use mathlib.Core.List.{List, _++_}
+use Prim.Native.Nat.{_-_, _≤_}
 use mathlib.Core.Path.{_≡_, ap, sym, _∙_}
-use native.Mathlib.Omega.{arith}
 use borrow.Author.Needs.{needs}
 use Rattle.kit.specs.Each.{each}
 use Rattle.kit.specs.Put.{Poured}
-use Rattle.kit.proofs.Each.{each-more}
-use Rattle.kit.proofs.Put.{poured-here, poured-then, poured-as, poured-length}
-use Rattle.train_telegram.specs.declared.states.National.{National}
+use Rattle.kit.proofs.Put.{poured-here, poured-then, poured-as, poured-each, poured-length}
 use Rattle.signals_output.specs.Lines.{systemWord}
 use Rattle.signals_output.proofs.put_national.Statement.{statement}
 use Rattle.signals_output.proofs.put_national.Tie as tie
-
-one-more : (national : List National) (i : ℕ) {l m n : List ℕ} {at j k : ℕ} → Poured l at (each (systemWord national) 0 i) m j → Poured m j (systemWord national i) n k
-    → Poured l at (each (systemWord national) 0 (i + 1)) n k
-one-more national i a b =
-    let here : 0 + i ≡ i = omega arith in
-    poured-as (each-more (systemWord national) 0 i ∙ ap (λ k. each (systemWord national) 0 i ++ systemWord national k) here) (poured-then a b)
 
 abbrev Inv-loop : tie.InvT-loop
 Inv-loop line₀ at national next₀ i₀ line next i = (i ≤ 16) × Poured line₀ next₀ (each (systemWord national) 0 i) line next
@@ -50,7 +40,7 @@ loop-less c = search needs
 loop-again : tie.Need-loop-again Inv-loop μ-loop
 loop-again c =
     let l = c .before .before .before .before .before .before .loop in
-    (search needs, one-more (c .before .before .before .before .before .before .before .before .before .before .before .before .before .args .t1) (l .i) (l .inv .1) (c .before .before .put-isolation .ensures))
+    (search needs, poured-each (systemWord (c .before .before .before .before .before .before .before .before .before .before .before .before .before .args .t1)) (l .i) (l .inv .1) (c .before .before .put-isolation .ensures))
 
 same-length : tie.Need-same-length Inv-loop μ-loop
 same-length c = poured-length (c .before .loop .inv .1) ∙ poured-length (c .before .before .before .before .put-words .ensures)

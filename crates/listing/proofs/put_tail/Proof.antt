@@ -1,0 +1,46 @@
+-- `put_tail`: a line unless nothing is kept.
+use mathlib.Core.Path.{ap}
+use mathlib.Core.Bool.{Bool, cond}
+use mathlib.Core.List.{[]}
+use borrow.Author.Tests.{eq-eqb, ne-eqb}
+use Rattle.kit.proofs.Put.{poured-as}
+use Rattle.listing_lines.specs.Lines.{refusedLine}
+use Rattle.listing.specs.Listings.{tailLine}
+use borrow.Author.Needs.{needs}
+use Rattle.listing.proofs.put_tail.Statement.{statement}
+use Rattle.listing.proofs.put_tail.Tie as tie
+
+slice-aggregate-put-words : tie.Need-slice-aggregate-put-words
+slice-aggregate-put-words c = search needs
+
+put-words-requires : tie.Need-put-words-requires
+put-words-requires c κs = search needs
+
+same-length : tie.Need-same-length
+same-length c = search needs
+
+returns : tie.Need-returns
+unfolding tailLine
+returns c = poured-as (ap (λ (b : Bool). cond b [] (refusedLine 10)) (eq-eqb _ _ (c .before .before .before .before .before .if1 .taken))) (c .before .before .put-words .ensures)
+
+put-refused-requires : tie.Need-put-refused-requires
+put-refused-requires c κs = search needs
+
+same-length-2 : tie.Need-same-length-2
+same-length-2 c = search needs
+
+returns-2 : tie.Need-returns-2
+unfolding tailLine
+returns-2 c = poured-as (ap (λ (b : Bool). cond b [] (refusedLine 10)) (ne-eqb _ _ (c .before .before .before .before .if1 .left))) (c .before .before .put-refused .ensures)
+
+pub put-tail-spec : {M : Type 1} → statement M
+put-tail-spec =
+    tie.close
+    (tie.spec
+    slice-aggregate-put-words
+    put-words-requires
+    same-length
+    returns
+    put-refused-requires
+    same-length-2
+    returns-2)

@@ -1,0 +1,61 @@
+-- A listing made piece by piece: what is kept from one piece to the next, and what each piece prints.
+use Prim.Native.Nat.{ℕ, _+_, _-_, min}
+use mathlib.Core.List.{List, [], _∷_, _++_}
+use lib.ListN.{length, take, replicate}
+use Rattle.listener.specs.Listeners.{freshListener}
+use Rattle.listing_lines.specs.Lines.{endLine}
+use Rattle.listing.specs.Listings.{telegramLength, telegrams, tailOf, listenerAfter, linesFor, tablesTaken, tailLine}
+use Rattle.listing.specs.declared.Lister.{Lister}
+
+-- the greatest number of tables that is counted; the count stays there
+abbrev pub mostTables : ℕ
+mostTables = 0xFFFFFFFFFFFFFFFF
+
+-- bytes of a telegram that is not yet whole, as they are kept: zeros follow them
+abbrev pub padded : List ℕ → List ℕ
+padded bytes = bytes ++ replicate (telegramLength - length bytes) 0
+
+-- before any piece
+unfoldable pub begun : Lister
+begun = record { listener = freshListener; tables = 0; tail = padded []; kept = 0 }
+
+-- the bytes that were kept, and the piece after them
+abbrev pub joined : Lister → List ℕ → List ℕ
+joined lister piece = take (lister .kept) (lister .tail) ++ piece
+
+-- the state after these telegrams, with these bytes left
+unfoldable pub keeping : Lister → List (List ℕ) → List ℕ → Lister
+keeping lister heard left =
+    record {
+      listener = listenerAfter (lister .listener) heard;
+      tables = min (lister .tables + tablesTaken (lister .listener) heard) mostTables;
+      tail = padded left;
+      kept = length left;
+    }
+
+-- the state after a piece: the telegrams that are whole now are heard, and what is left is kept
+unfoldable pub takeOf : Lister → List ℕ → Lister
+takeOf lister piece = keeping lister (telegrams (joined lister piece)) (tailOf (joined lister piece))
+
+-- what a piece prints
+unfoldable pub linesOf : Lister → List ℕ → List ℕ
+linesOf lister piece = linesFor (lister .listener) (telegrams (joined lister piece))
+
+-- what is printed at the end
+unfoldable pub endOf : Lister → List ℕ
+endOf lister = tailLine (lister .kept) ++ endLine (lister .tables)
+
+-- R-26: a state that came from `begun` and earlier pieces
+pub data Made : Lister → Type 0 where
+  made : Made begun
+  taken : {lister : Lister} → Made lister → (piece : List ℕ) → Made (takeOf lister piece)
+
+-- a recording in pieces, put together
+unfoldable pub together : List (List ℕ) → List ℕ
+together [] = []
+together (piece ∷ more) = piece ++ together more
+
+-- what is printed for the pieces, one after another, and at the end
+unfoldable pub printed : Lister → List (List ℕ) → List ℕ
+printed lister [] = endOf lister
+printed lister (piece ∷ more) = linesOf lister piece ++ printed (takeOf lister piece) more

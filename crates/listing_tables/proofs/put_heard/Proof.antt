@@ -1,0 +1,48 @@
+-- `put_heard`: a table taken has its line and those of its slots; any other answer what `put_refusal` puts.
+use mathlib.Core.Path.{ap}
+use Rattle.kit.proofs.Put.{poured-as, poured-then}
+use Rattle.listener.specs.declared.Answer.{Answer}
+use Rattle.listing_tables.specs.Tables.{answerLines, heardLines}
+use Rattle.listing_tables.proofs.Others.{untaken}
+use borrow.Author.Needs.{needs}
+use Rattle.listing_tables.proofs.put_heard.Statement.{statement}
+use Rattle.listing_tables.proofs.put_heard.Tie as tie
+
+enum-known-answer : tie.Need-enum-known-answer
+enum-known-answer c = search needs
+
+put-refusal-requires : tie.Need-put-refusal-requires
+put-refusal-requires c κs = search needs
+
+same-length : tie.Need-same-length
+same-length c = search needs
+
+returns : tie.Need-returns
+unfolding heardLines
+returns c = poured-as (untaken (c .before .before .before .before .before .before .args .heard .answer) (c .before .before .before .before .match .keys2) .1 (c .before .before .before .before .before .before .args .heard .listener .picture) (c .before .before .before .before .before .before .args .heard .listener .marks)) (c .before .before .put-refusal .ensures)
+
+put-table-line-requires : tie.Need-put-table-line-requires
+put-table-line-requires c κs = search needs
+
+put-picture-requires : tie.Need-put-picture-requires
+put-picture-requires c κs = search needs
+
+same-length-2 : tie.Need-same-length-2
+same-length-2 c = search needs
+
+returns-2 : tie.Need-returns-2
+unfolding heardLines
+returns-2 c = poured-as (ap (λ (a : Answer). answerLines a (c .before .before .before .before .before .before .before .before .before .before .before .before .before .before .before .args .heard .listener .picture) (c .before .before .before .before .before .before .before .before .before .before .before .before .before .before .before .args .heard .listener .marks)) (c .before .before .before .before .before .before .before .before .before .before .before .before .answer .given .1)) (poured-then (c .before .before .before .before .before .before .put-table-line .ensures) (c .before .before .put-picture .ensures))
+
+pub put-heard-spec : {M : Type 1} → statement M
+put-heard-spec =
+    tie.close
+    (tie.spec
+    enum-known-answer
+    put-refusal-requires
+    same-length
+    returns
+    put-table-line-requires
+    put-picture-requires
+    same-length-2
+    returns-2)

@@ -1,0 +1,65 @@
+-- The words of a listing: document 01, "Listing program", the third to the fifth sentence.
+use Prim.Native.Nat.{ℕ}
+use mathlib.Core.Bool.{Bool, cond}
+use mathlib.Core.List.{List, [], _∷_, _++_}
+use lib.Dec.{eqb}
+use Rattle.text.specs.Decimals.{decimal}
+use Rattle.wire.specs.Distances.{noValue, distanceOf}
+use Rattle.wire.specs.declared.distances.Distance.{Distance}
+use Rattle.wire.specs.declared.distances.Distance.the-variants.{Missing, Metres, Below}
+use Rattle.condition.specs.declared.slots.Body.{Body}
+use Rattle.condition.specs.declared.slots.Body.the-variants.{Empty, Area, Traction, Current}
+
+abbrev pub blank : ℕ
+blank = 32
+
+abbrev pub lineFeed : ℕ
+lineFeed = 10
+
+-- A-35: a number in decimal, and one byte after it: a blank or a line feed
+abbrev pub numberThen : ℕ → ℕ → List ℕ
+numberThen number after = decimal number ++ (after ∷ [])
+
+-- "-": the sign of a number below zero, and the word for a missing distance (G-05)
+abbrev pub minus : ℕ
+minus = 45
+
+-- G-05, K-06, K-07: metres in decimal, below zero with a minus sign; a missing distance is `-`
+abbrev pub metresWord : Distance → List ℕ
+metresWord Missing = minus ∷ []
+metresWord (Metres metres) = decimal metres
+metresWord (Below metres) = minus ∷ decimal metres
+
+-- the same, of the word that codes the distance
+unfoldable pub distanceWord : ℕ → List ℕ
+distanceWord word = metresWord (distanceOf word)
+
+-- "/"
+abbrev pub stroke : ℕ
+stroke = 47
+
+-- G-06: for type 4 `voltage/country`, and `-` when the change distance is missing
+unfoldable pub systemWord : ℕ → ℕ → ℕ → List ℕ
+systemWord change country voltage = cond (eqb change noValue) (minus ∷ []) (numberThen voltage stroke ++ decimal country)
+
+-- G-06: for type 5 the raw limit, and `-` when the change distance is missing
+unfoldable pub limitWord : ℕ → ℕ → List ℕ
+limitWord change limit = cond (eqb change noValue) (minus ∷ []) (decimal limit)
+
+-- G-04, G-06: the second word; for the other types it is the exit
+abbrev pub secondWord : Body → List ℕ
+secondWord Empty = []
+secondWord (Area kind entry exit) = distanceWord exit
+secondWord (Traction change country voltage) = systemWord change country voltage
+secondWord (Current change limit) = limitWord change limit
+
+-- "new" and "carried" (G-04)
+abbrev pub newWord : List ℕ
+newWord = 110 ∷ 101 ∷ 119 ∷ []
+
+abbrev pub carriedWord : List ℕ
+carriedWord = 99 ∷ 97 ∷ 114 ∷ 114 ∷ 105 ∷ 101 ∷ 100 ∷ []
+
+-- G-04: `new` or `carried`
+abbrev pub markWord : Bool → List ℕ
+markWord carried = cond carried carriedWord newWord
