@@ -1,0 +1,34 @@
+-- `show_header`: the place past the line counts bytes of the buffer.
+use Rattle.kit.proofs.Put.{poured-counts}
+use borrow.Author.Needs.{needs}
+use Rattle.list_conditions.proofs.show_header.Statement.{statement}
+use Rattle.list_conditions.proofs.show_header.Tie as tie
+
+slice-aggregate-put-header : tie.Need-slice-aggregate-put-header
+slice-aggregate-put-header c = search needs
+
+put-header-requires : tie.Need-put-header-requires
+put-header-requires c κs = search needs
+
+array-share-prefix-out : tie.Need-array-share-prefix-out
+array-share-prefix-out c = search needs
+
+slice-aggregate-write-all : tie.Need-slice-aggregate-write-all
+slice-aggregate-write-all c = poured-counts (c .before .before .put-header .ensures)
+
+write-all-requires : tie.Need-write-all-requires
+write-all-requires c κs = search needs
+
+returns : tie.Need-returns
+returns c = search needs
+
+pub show-header-spec : {M : Type 1} → statement M
+show-header-spec =
+    tie.close
+    (tie.spec
+    slice-aggregate-put-header
+    put-header-requires
+    array-share-prefix-out
+    slice-aggregate-write-all
+    write-all-requires
+    returns)

@@ -1,0 +1,34 @@
+-- `show_piece`: the place past the lines counts bytes of the buffer.
+use Rattle.kit.proofs.Put.{poured-counts}
+use borrow.Author.Needs.{needs}
+use Rattle.list_conditions.proofs.show_piece.Statement.{statement}
+use Rattle.list_conditions.proofs.show_piece.Tie as tie
+
+slice-aggregate-take : tie.Need-slice-aggregate-take
+slice-aggregate-take c = search needs
+
+take-requires : tie.Need-take-requires
+take-requires c κs = search needs
+
+array-share-prefix-out : tie.Need-array-share-prefix-out
+array-share-prefix-out c = search needs
+
+slice-aggregate-write-all : tie.Need-slice-aggregate-write-all
+slice-aggregate-write-all c = poured-counts (c .before .before .take .ensures .1)
+
+write-all-requires : tie.Need-write-all-requires
+write-all-requires c κs = search needs
+
+returns : tie.Need-returns
+returns c = search needs
+
+pub show-piece-spec : {M : Type 1} → statement M
+show-piece-spec =
+    tie.close
+    (tie.spec
+    slice-aggregate-take
+    take-requires
+    array-share-prefix-out
+    slice-aggregate-write-all
+    write-all-requires
+    returns)
