@@ -1,9 +1,9 @@
 -- `is_last`: by the variant that the `match` found.
 use mathlib.Core.Path.{sym, ap}
 use borrow.Author.Needs.{needs}
-use Rattle.listener.specs.Listeners.{isLast}
-use Rattle.listener.proofs.is_last.Statement.{statement}
-use Rattle.listener.proofs.is_last.Tie as tie
+use Rattle.last_step.specs.LastSteps.{isLast}
+use Rattle.last_step.proofs.is_last.Statement.{statement}
+use Rattle.last_step.proofs.is_last.Tie as tie
 
 enum-told : tie.Need-enum-told
 enum-told c = search needs

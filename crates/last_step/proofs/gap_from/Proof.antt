@@ -1,9 +1,9 @@
 -- `gap_from`: by the variant that the `match` found.
 use mathlib.Core.Path.{sym, ap, _∙_}
 use borrow.Author.Needs.{needs}
-use Rattle.listener.specs.Listeners.{gapFrom}
-use Rattle.listener.proofs.gap_from.Statement.{statement}
-use Rattle.listener.proofs.gap_from.Tie as tie
+use Rattle.last_step.specs.LastSteps.{gapFrom}
+use Rattle.last_step.proofs.gap_from.Statement.{statement}
+use Rattle.last_step.proofs.gap_from.Tie as tie
 
 enum-told : tie.Need-enum-told
 enum-told c = search needs
