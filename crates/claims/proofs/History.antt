@@ -17,7 +17,8 @@ use Rattle.wire.specs.Verdicts.{numberOf}
 use Rattle.wire.specs.declared.verdicts.Verdict.the-variants.{Accepted as Passed}
 use Rattle.condition.proofs.Coding.{held-occupied}
 use Rattle.telegram.specs.Tables.{tableSlot}
-use Rattle.orders.specs.Orders.{listRefusal, placeAt}
+use Rattle.places.specs.Places.{placeAt}
+use Rattle.orders.specs.Orders.{listRefusal}
 use Rattle.desk.specs.Desks.{acceptOf}
 use Rattle.desk.specs.Runs.{run, Accepted, Stood, InNewest}
 use Rattle.desk.specs.Steps.{stepOf}

@@ -14,7 +14,9 @@ use Rattle.wire.proofs.Answers.{refused-when, accepted-when}
 use Rattle.condition.specs.Slots.{codedOf}
 use Rattle.wire.specs.declared.verdicts.Verdict.the-variants.{Accepted, Refused}
 use Rattle.telegram.specs.Telegrams.{readOf, bytesOf}
-use Rattle.orders.specs.Orders.{orderAt, placeOf, stands, orderNamed, placeAt, isLive, listRows, listRefusal}
+use Rattle.order_list.specs.Lists.{orderAt, stands, orderNamed}
+use Rattle.places.specs.Places.{placeOf, placeAt, isLive}
+use Rattle.orders.specs.Orders.{listRows, listRefusal}
 use Rattle.orders.proofs.Lists.{fair}
 use Rattle.orders.proofs.Rows.{list-numbered}
 use Rattle.desk.specs.Desks.{rest, acceptOf, telegramOf, Made}

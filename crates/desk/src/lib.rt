@@ -5,7 +5,7 @@ mod leaving;
 
 use arriving::Seats;
 use numbers::Ended;
-use orders::Place;
+use places::Place;
 use wire::Verdict;
 ghost use mathlib.Core.Path.{_≡_};
 ghost use Rattle.orders.specs.Orders.{listRefusal};

@@ -16,9 +16,9 @@ use Rattle.kit.proofs.Cases.{on, clash, given, or-neither, and-both}
 use Rattle.kit.proofs.Loops.{scan-at, find-before, found-there, found-when, any-none, any-some}
 use Rattle.kit.proofs.Member.{member-map, member-append, pigeonhole}
 use Rattle.wire.specs.Steps.{gapOf}
-use Rattle.orders.specs.Orders.{placeAt, freePlace}
+use Rattle.places.specs.Places.{placeAt, freePlace}
 use Rattle.condition.specs.Slots.{slots}
-use Rattle.orders.specs.declared.Place.{Place}
+use Rattle.places.specs.declared.Place.{Place}
 use Rattle.numbers.specs.Numbers.{noneEnded, endedAt, restsBy, isResting, hasNumber, isPermitted, numberAfter, nextNumber}
 use Rattle.numbers.specs.declared.Ended.{Ended}
 

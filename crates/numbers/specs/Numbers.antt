@@ -9,9 +9,9 @@ use lib.Dec.{eqb, ltb}
 use lib.ListN.{length, getD}
 use Rattle.kit.specs.Loops.{scan, any}
 use Rattle.wire.specs.Steps.{gapOf}
-use Rattle.orders.specs.Orders.{placeAt}
+use Rattle.places.specs.Places.{placeAt}
 use Rattle.condition.specs.Slots.{slots}
-use Rattle.orders.specs.declared.Place.{Place}
+use Rattle.places.specs.declared.Place.{Place}
 use Rattle.numbers.specs.declared.Ended.{Ended}
 
 -- A-40: an entry of the ended numbers that says nothing

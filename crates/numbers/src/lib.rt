@@ -1,7 +1,7 @@
 // Which number a new order is given: the first permitted one after the last one given. A number is permitted if no live order has
 // it and it does not rest. How many steps a number rests is a figure that the desk hands in.
 use condition::SLOTS;
-use orders::Place;
+use places::Place;
 ghost use mathlib.Core.Path.{_≡_};
 ghost use Prim.Native.Nat.{_<_};
 ghost use Rattle.numbers.specs.Numbers.{noneEnded, restsBy, isResting, hasNumber, isPermitted, numberAfter, nextNumber};

@@ -14,7 +14,9 @@ use Rattle.wire.specs.Steps.{gapOf}
 use Rattle.kinds.specs.Words.{secondAllowed, secondHeld, isConsidered}
 use Rattle.telegram.specs.Telegrams.{readRows, codedAt, takenBefore, telegramOf, bytesOf}
 use Rattle.telegram.specs.Telegrams as Telegrams′
-use Rattle.orders.specs.Orders.{orderAt, listedAt, placeOf, isRetyped, orderRows, listRows}
+use Rattle.order_list.specs.Lists.{orderAt, listedAt}
+use Rattle.places.specs.Places.{placeOf}
+use Rattle.orders.specs.Orders.{isRetyped, orderRows, listRows}
 use Rattle.numbers.specs.Numbers.{restsBy, isResting, hasNumber, nextNumber}
 use Rattle.desk.specs.Desks.{freshWith, acceptOf, tableOf}
 use Rattle.desk.specs.Runs.{run}

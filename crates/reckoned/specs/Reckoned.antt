@@ -14,7 +14,7 @@ use Rattle.telegram.specs.Telegrams.{blank, readOf, bytesOf}
 use Rattle.telegram.specs.declared.Reading.{Reading}
 use Rattle.telegram.specs.declared.Telegram.{Telegram}
 use Rattle.orders.specs.Orders.{listRefusal}
-use Rattle.orders.specs.declared.Place.{Place}
+use Rattle.places.specs.declared.Place.{Place}
 use Rattle.desk.specs.Desks.{rest, freshDesk, acceptOf, tableOf}
 use Rattle.desk.specs.Runs.{run}
 use Rattle.train_telegram.specs.States.{systemWith}

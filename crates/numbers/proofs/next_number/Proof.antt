@@ -9,7 +9,7 @@ use borrow.Author.Tests.{eqb-true, eqb-false, not-true, not-false}
 use lib.Dec.{eqb}
 use lib.ListN.{length-map, length}
 use Rattle.kit.proofs.Cases.{on}
-use Rattle.orders.specs.declared.Place.{Place}
+use Rattle.places.specs.declared.Place.{Place}
 use Rattle.numbers.specs.Numbers.{isPermitted, isResting, numberAfter, nextNumber}
 use Rattle.numbers.specs.declared.Ended.{Ended}
 use Rattle.numbers.proofs.Search.{covers-resting, others-few, number-first}

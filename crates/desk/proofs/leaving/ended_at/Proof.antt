@@ -6,7 +6,7 @@ use lib.ListN.{length}
 use native.Mathlib.Omega.{arith}
 use borrow.Author.Needs.{needs}
 use Rattle.condition.specs.Slots.{slots}
-use Rattle.orders.specs.declared.Place.{Place}
+use Rattle.places.specs.declared.Place.{Place}
 use Rattle.numbers.specs.Numbers.{endedAt}
 use Rattle.numbers.specs.declared.Ended.{Ended}
 use Rattle.desk.specs.Steps.{endedNumbers}

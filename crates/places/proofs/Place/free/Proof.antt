@@ -1,7 +1,7 @@
 -- `Place::free`: its slot is the empty one.
 use borrow.Author.Needs.{needs}
-use Rattle.orders.proofs.Place.free.Statement.{statement}
-use Rattle.orders.proofs.Place.free.Tie as tie
+use Rattle.places.proofs.Place.free.Statement.{statement}
+use Rattle.places.proofs.Place.free.Tie as tie
 
 empty-requires : tie.Need-empty-requires
 empty-requires c κs = search needs

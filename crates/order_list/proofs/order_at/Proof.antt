@@ -1,8 +1,8 @@
 -- `order_at`: the bytes, the words and the number are those of the list.
-use Rattle.orders.specs.Orders.{orderAt}
+use Rattle.order_list.specs.Lists.{orderAt}
 use borrow.Author.Needs.{needs}
-use Rattle.orders.proofs.order_at.Statement.{statement}
-use Rattle.orders.proofs.order_at.Tie as tie
+use Rattle.order_list.proofs.order_at.Statement.{statement}
+use Rattle.order_list.proofs.order_at.Tie as tie
 
 mul-at : tie.Need-mul-at
 mul-at c = search needs

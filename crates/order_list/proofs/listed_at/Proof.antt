@@ -9,9 +9,9 @@ use borrow.Author.Needs.{needs}
 use borrow.Author.Tests.{eq-eqb, ne-eqb}
 use Rattle.kit.specs.Loops.{scan}
 use Rattle.kit.proofs.Loops.{scan-go, scan-hit, scan-end}
-use Rattle.orders.specs.Orders.{orderAt, listedAt}
-use Rattle.orders.proofs.listed_at.Statement.{statement}
-use Rattle.orders.proofs.listed_at.Tie as tie
+use Rattle.order_list.specs.Lists.{orderAt, listedAt}
+use Rattle.order_list.proofs.listed_at.Statement.{statement}
+use Rattle.order_list.proofs.listed_at.Tie as tie
 
 abbrev test : List ℕ → ℕ → ℕ → Bool
 test list number j = eqb (orderAt list j .number) number

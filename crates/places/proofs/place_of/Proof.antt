@@ -8,11 +8,11 @@ use borrow.Author.Needs.{needs}
 use borrow.Author.Tests.{eq-eqb, ne-eqb}
 use Rattle.kit.specs.Loops.{scan}
 use Rattle.kit.proofs.Loops.{scan-go, scan-hit, scan-end}
-use Rattle.orders.specs.Orders.{placeAt, placeOf}
+use Rattle.places.specs.Places.{placeAt, placeOf}
 use Rattle.condition.specs.Slots.{slots}
-use Rattle.orders.specs.declared.Place.{Place}
-use Rattle.orders.proofs.place_of.Statement.{statement}
-use Rattle.orders.proofs.place_of.Tie as tie
+use Rattle.places.specs.declared.Place.{Place}
+use Rattle.places.proofs.place_of.Statement.{statement}
+use Rattle.places.proofs.place_of.Tie as tie
 
 abbrev test : List Place → ℕ → ℕ → Bool
 test places order i = eqb (placeAt places i .order) order
