@@ -17,7 +17,8 @@ use Rattle.wire.specs.declared.verdicts.Verdict.the-variants.{Accepted}
 use Rattle.telegram.specs.Tables.{packets, firstPacket, fourOf}
 use Rattle.condition.specs.Slots.{slots}
 use Rattle.telegram.specs.declared.Telegram.{Telegram}
-use Rattle.picture.specs.Pictures.{countOf, clashes, marksOf}
+use Rattle.picture.specs.Pictures.{countOf, clashes}
+use Rattle.marks.specs.Marks.{marksOf}
 use Rattle.hand.specs.Sets.{begun, setFor, isHeld, joined, isWhole as isGathered}
 use Rattle.last_step.specs.LastSteps.{isLast, gapFrom}
 use Rattle.listener.specs.Listeners.{freshListener, holding, takenBy, takenAnswer, heardOf, hearOf}

@@ -29,7 +29,8 @@ use Rattle.desk.proofs.Stepping.{Sound}
 use Rattle.desk.proofs.Tables.{table-at, table-held, table-long, table-distinct}
 use Rattle.desk.proofs.Tracing.{at, run-none, run-more, run-sound, run-step, same-number, persists, live-newest, newest-live}
 use Rattle.picture.specs.Pictures.{clashes}
-use Rattle.picture.proofs.Carrying.{InPicture, no-clash}
+use Rattle.picture.proofs.Clashing.{no-clash}
+use Rattle.marks.proofs.Carrying.{InPicture}
 use Rattle.claims.specs.Calls.{deskAfter, accepted, stepsMade, upTo, deskOf, tableIn, orderIn, StoodIn, StoodFrom}
 
 module _ (rest : ℕ) where

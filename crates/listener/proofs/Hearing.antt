@@ -11,7 +11,8 @@ use Rattle.condition.specs.Slots.{slots, emptySlot}
 use Rattle.wire.specs.declared.verdicts.Verdict.the-variants.{Accepted, Refused}
 use Rattle.telegram.specs.declared.Reading.{Reading}
 use Rattle.telegram.specs.declared.Telegram.{Telegram}
-use Rattle.picture.specs.Pictures.{clashes, marksOf}
+use Rattle.picture.specs.Pictures.{clashes}
+use Rattle.marks.specs.Marks.{marksOf}
 use Rattle.hand.specs.Sets.{begun, setFor, isHeld, joined, isWhole}
 use Rattle.last_step.specs.LastSteps.{gapFrom, isLast}
 use Rattle.listener.specs.Listeners.{freshListener, markAt, holding, takenBy, takenAnswer, heardOf, afterReading, hearOf}

@@ -10,7 +10,8 @@ use Rattle.wire.specs.declared.verdicts.Verdict.the-variants.{Accepted, Refused
 use Rattle.telegram.specs.Telegrams.{readRows, readOf}
 use Rattle.telegram.specs.declared.Reading.{Reading}
 use Rattle.telegram.specs.declared.Telegram.{Telegram}
-use Rattle.picture.specs.Pictures.{countOf, clashes, marksOf}
+use Rattle.picture.specs.Pictures.{countOf, clashes}
+use Rattle.marks.specs.Marks.{marksOf}
 use Rattle.hand.specs.Sets.{begun, setFor, isHeld, joined, isWhole}
 use Rattle.last_step.specs.LastSteps.{isLast, gapFrom}
 use Rattle.last_step.specs.declared.Last.the-variants.{Never, Step}

@@ -88,7 +88,7 @@ fn take(listener: Listener, set: Hand) -> Heard
     let gap = last_step::gap_from(last, set.step);
     let before = listener.picture;
     let slots = set.slots;
-    let marks = picture::marks_of(Listener::CARRIES, gap, before, slots);
+    let marks = marks::marks_of(Listener::CARRIES, gap, before, slots);
     let count = picture::count_of(slots);
     Heard {
         answer: Answer::Taken {

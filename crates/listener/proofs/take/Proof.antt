@@ -4,7 +4,8 @@ use mathlib.Core.Bool.{Bool}
 use mathlib.Core.List.{List}
 use mathlib.Core.Path.{_≡_, ap, _∙_}
 use borrow.Author.Needs.{needs}
-use Rattle.picture.specs.Pictures.{countOf, marksOf}
+use Rattle.picture.specs.Pictures.{countOf}
+use Rattle.marks.specs.Marks.{marksOf}
 use Rattle.listener.specs.declared.Answer.the-variants.{Taken}
 use Rattle.listener.specs.declared.Heard.{Heard}
 use Rattle.last_step.specs.declared.Last.the-variants.{Step}

@@ -5,9 +5,9 @@ use borrow.Author.Tests.{eq-eqb, ne-eqb}
 use Rattle.condition.specs.Slots.{codedOf, kindOf}
 use Rattle.condition.specs.declared.slots.Coded.{Coded}
 use Rattle.condition.specs.declared.slots.Slot.{Slot}
-use Rattle.picture.specs.Pictures.{isSame}
-use Rattle.picture.proofs.is_same.Statement.{statement}
-use Rattle.picture.proofs.is_same.Tie as tie
+use Rattle.marks.specs.Marks.{isSame}
+use Rattle.marks.proofs.is_same.Statement.{statement}
+use Rattle.marks.proofs.is_same.Tie as tie
 
 kind : (slot : Slot) (coded : Coded) → coded ≡ codedOf slot → kindOf slot ≡ coded .kind
 kind slot coded e = sym (ap (λ (c : Coded). c .kind) e)

@@ -1,43 +1,18 @@
--- What the judgements of a table say: when no number stands in it twice, and when an entry is carried.
+-- When an entry is carried.
 use Prim.Native.Nat.{ℕ, _<_, _≤_}
 use mathlib.Core.Path.{_≡_, refl}
 use mathlib.Core.Logic.{_↔_}
-use mathlib.Core.Bool.{true, false, _&&_}
+use mathlib.Core.Bool.{true, false}
 use mathlib.Core.List.{List}
-use lib.Dec.{eqb}
 use lib.ListN.{getD, List·getD-map}
 use native.Mathlib.Omega.{arith}
 use borrow.Author.Tests.{eqb-true, eq-eqb, leb-true, le-leb}
 use Rattle.kit.proofs.Cases.{on, given, and-both}
-use Rattle.kit.proofs.Loops.{scan-none, any-some, any-when}
+use Rattle.kit.proofs.Loops.{any-some, any-when}
 use Rattle.condition.specs.Slots.{emptySlot, isOccupied, kindOf, slots}
 use Rattle.condition.specs.declared.slots.Slot.{Slot}
 use Rattle.telegram.specs.Tables.{tableSlot}
-use Rattle.picture.specs.Pictures.{hasNumber, isTwice, clashes, isSame, isKnown, isCarried, marksOf}
-
--- no two occupied slots have the same number
-abbrev pub Apart : List Slot → Type 0
-Apart table =
-    (i j : ℕ) → i < j → isOccupied (tableSlot table i) ≡ true → isOccupied (tableSlot table j) ≡ true
-    → tableSlot table i .number ≡ tableSlot table j .number → ⊥
-
--- then nothing clashes
-pub no-clash : (table : List Slot) → Apart table → clashes table ≡ false
-unfolding clashes isTwice hasNumber
-no-clash table apart =
-    scan-none _ _ false 0 slots
-    (λ i low below.
-    on (isOccupied (tableSlot table i))
-    (λ e.
-    rw e
-    (scan-none _ _ false 0 i
-    (λ j from below-i.
-    on (isOccupied (tableSlot table j) && eqb (tableSlot table j .number) (tableSlot table i .number))
-    (λ t.
-    given (and-both _ _ t)
-    (λ (occupied, same). absurd (apart j i (omega arith) occupied e (eqb-true (tableSlot table j .number) (tableSlot table i .number) same))))
-    (λ t. t))))
-    (λ e. rw e refl))
+use Rattle.marks.specs.Marks.{isSame, isKnown, isCarried, marksOf}
 
 -- L-06: the picture has the slot's number with its type
 abbrev pub InPicture : List Slot → Slot → Type 0

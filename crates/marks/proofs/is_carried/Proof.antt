@@ -3,9 +3,9 @@ use mathlib.Core.Path.{sym, _∙_}
 use borrow.Author.Needs.{needs}
 use borrow.Author.Tests.{le-leb, lt-leb, not-true, not-false}
 use Rattle.kit.proofs.Cases.{above-zero, at-zero}
-use Rattle.picture.specs.Pictures.{isCarried}
-use Rattle.picture.proofs.is_carried.Statement.{statement}
-use Rattle.picture.proofs.is_carried.Tie as tie
+use Rattle.marks.specs.Marks.{isCarried}
+use Rattle.marks.proofs.is_carried.Statement.{statement}
+use Rattle.marks.proofs.is_carried.Tie as tie
 
 is-occupied-requires : tie.Need-is-occupied-requires
 is-occupied-requires c κs = search needs

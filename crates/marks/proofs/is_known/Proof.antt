@@ -9,9 +9,9 @@ use Rattle.kit.proofs.Loops.{scan-go, scan-hit, scan-end}
 use Rattle.condition.specs.declared.slots.Slot.{Slot}
 use Rattle.telegram.specs.Tables.{tableSlot}
 use Rattle.condition.specs.Slots.{slots}
-use Rattle.picture.specs.Pictures.{isSame, isKnown}
-use Rattle.picture.proofs.is_known.Statement.{statement}
-use Rattle.picture.proofs.is_known.Tie as tie
+use Rattle.marks.specs.Marks.{isSame, isKnown}
+use Rattle.marks.proofs.is_known.Statement.{statement}
+use Rattle.marks.proofs.is_known.Tie as tie
 
 abbrev same : List Slot → Slot → ℕ → Bool
 same before slot j = isSame (tableSlot before j) slot

@@ -9,9 +9,9 @@ use borrow.Author.Needs.{needs}
 use Rattle.kit.specs.Fill.{Filled}
 use Rattle.kit.proofs.Fill.{mapped-none, mapped-more, mapped-all}
 use Rattle.condition.specs.Slots.{emptySlot, slots}
-use Rattle.picture.specs.Pictures.{isCarried, marksOf}
-use Rattle.picture.proofs.marks_of.Statement.{statement}
-use Rattle.picture.proofs.marks_of.Tie as tie
+use Rattle.marks.specs.Marks.{isCarried, marksOf}
+use Rattle.marks.proofs.marks_of.Statement.{statement}
+use Rattle.marks.proofs.marks_of.Tie as tie
 
 abbrev Inv-loop : tie.InvT-loop
 Inv-loop limit gap before table marks₀ i₀ marks i = (i ≤ slots) × Filled false (map (isCarried limit gap before) table) i marks
