@@ -16,8 +16,8 @@ use Rattle.condition.specs.Slots.{slots}
 use Rattle.places.specs.declared.Place.{Place}
 use Rattle.order_list.proofs.Listed.{listed-there}
 use Rattle.orders.proofs.Lists.{Fair}
-use Rattle.numbers.specs.Numbers.{noneEnded, endedAt}
-use Rattle.numbers.specs.declared.Ended.{Ended}
+use Rattle.resting.specs.Rests.{noneEnded, endedAt}
+use Rattle.resting.specs.declared.Ended.{Ended}
 use Rattle.desk.specs.Steps.{stays, bodyIn, keptPlace, endedEntry, endedNumbers}
 
 -- ---- places

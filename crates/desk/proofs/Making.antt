@@ -11,7 +11,7 @@ use Rattle.wire.specs.declared.verdicts.Verdict.the-variants.{Accepted as accep
 use Rattle.order_list.specs.Lists.{orderCount}
 use Rattle.orders.specs.Orders.{listRefusal}
 use Rattle.orders.proofs.Lists.{fair}
-use Rattle.numbers.specs.Numbers.{isResting}
+use Rattle.resting.specs.Rests.{isResting}
 use Rattle.desk.specs.declared.Desk.{Desk}
 use Rattle.desk.specs.Desks.{rest, acceptOf, Made, made, called}
 use Rattle.desk.specs.Runs.{run, Accepted}

@@ -23,9 +23,11 @@ use Rattle.desk.specs.Desks.{rest, acceptOf, telegramOf, Made}
 use Rattle.desk.specs.Steps.{bodyIn, keptPlace}
 use Rattle.desk.specs.Runs.{run, Accepted as Accepted-run}
 use Rattle.desk.specs.declared.Desk.{Desk}
-use Rattle.numbers.specs.Numbers.{isResting, isPermitted, nextNumber, numberAfter}
-use Rattle.numbers.specs.declared.Ended.{Ended}
-use Rattle.numbers.proofs.Search.{covers-resting, number-permitted}
+use Rattle.resting.specs.Rests.{isResting}
+use Rattle.numbers.specs.Numbers.{isPermitted, nextNumber, numberAfter}
+use Rattle.resting.specs.declared.Ended.{Ended}
+use Rattle.resting.proofs.Rested.{covers-resting}
+use Rattle.numbers.proofs.Search.{number-permitted}
 use Rattle.desk.proofs.Tracing.{at, rested}
 use Rattle.desk.proofs.Turns.{OneNew, passed-over, given-again}
 use Rattle.desk.proofs.Making.{accepts, refuses, made-sound}

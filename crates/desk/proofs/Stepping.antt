@@ -20,9 +20,9 @@ use Rattle.places.specs.declared.Place.{Place}
 use Rattle.order_list.proofs.Listed.{listed-there, listed-when}
 use Rattle.places.proofs.Live.{live-there}
 use Rattle.orders.proofs.Lists.{listed-self, Fair}
-use Rattle.numbers.specs.Numbers.{noneEnded, endedAt, isResting}
-use Rattle.numbers.specs.declared.Ended.{Ended}
-use Rattle.numbers.proofs.Search.{covers-resting, resting-when}
+use Rattle.resting.specs.Rests.{noneEnded, endedAt, isResting}
+use Rattle.resting.specs.declared.Ended.{Ended}
+use Rattle.resting.proofs.Rested.{covers-resting, resting-when}
 use Rattle.desk.specs.Steps.{bodyIn, nextStep, keptPlace, endedNumbers, seatedAll, stepOf}
 use Rattle.desk.specs.Rooms.{RoomForAll}
 use Rattle.desk.specs.declared.Desk.{Desk}

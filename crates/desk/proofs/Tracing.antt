@@ -18,8 +18,8 @@ use Rattle.places.specs.Places.{freePlace, placeAt, placeOf}
 use Rattle.places.specs.declared.Place.{Place}
 use Rattle.places.proofs.Live.{live-there, live-when}
 use Rattle.orders.proofs.Lists.{Fair, fair}
-use Rattle.numbers.specs.Numbers.{noneEnded, endedAt}
-use Rattle.numbers.specs.declared.Ended.{Ended}
+use Rattle.resting.specs.Rests.{noneEnded, endedAt}
+use Rattle.resting.specs.declared.Ended.{Ended}
 use Rattle.desk.specs.declared.Desk.{Desk}
 use Rattle.desk.specs.Desks.{freshWith}
 use Rattle.desk.specs.Runs.{run, Accepted, Stood, InNewest}

@@ -20,7 +20,8 @@ use Rattle.places.specs.declared.Place.{Place}
 use Rattle.order_list.proofs.Listed.{listed-when}
 use Rattle.places.proofs.Live.{live-there, live-when}
 use Rattle.orders.proofs.Lists.{Fair, fair}
-use Rattle.numbers.specs.Numbers.{isResting, hasNumber, isPermitted, nextNumber, numberAfter}
+use Rattle.resting.specs.Rests.{isResting}
+use Rattle.numbers.specs.Numbers.{hasNumber, isPermitted, nextNumber, numberAfter}
 use Rattle.numbers.proofs.Search.{number-first, number-some}
 use Rattle.desk.specs.Runs.{run, Accepted, EndedAgo}
 use Rattle.desk.specs.Steps.{keptPlace, seated, seatedAll, stepOf, nextStep, endedNumbers}

@@ -12,7 +12,7 @@ use Rattle.places.specs.Places.{freePlace}
 use Rattle.orders.specs.Orders.{listRefusal}
 use Rattle.condition.specs.Slots.{slots}
 use Rattle.places.specs.declared.Place.{Place}
-use Rattle.numbers.specs.Numbers.{noneEnded}
+use Rattle.resting.specs.Rests.{noneEnded}
 use Rattle.desk.specs.declared.Desk.{Desk}
 use Rattle.desk.specs.declared.Answer.{Answer}
 use Rattle.desk.specs.Steps.{stepOf}

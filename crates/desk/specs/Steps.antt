@@ -12,8 +12,9 @@ use Rattle.order_list.specs.Lists.{stands, orderNamed, orderAt, orderCount}
 use Rattle.places.specs.Places.{lowestFree, freePlace, isLive}
 use Rattle.order_list.specs.declared.Order.{Order}
 use Rattle.places.specs.declared.Place.{Place}
-use Rattle.numbers.specs.Numbers.{noneEnded, isResting, nextNumber}
-use Rattle.numbers.specs.declared.Ended.{Ended}
+use Rattle.resting.specs.Rests.{noneEnded, isResting}
+use Rattle.numbers.specs.Numbers.{nextNumber}
+use Rattle.resting.specs.declared.Ended.{Ended}
 use Rattle.desk.specs.declared.Desk.{Desk}
 use Rattle.desk.specs.declared.arriving.Seats.{Seats}
 

@@ -2,16 +2,16 @@
 ghost use mathlib.Core.Path.{_≡_};
 ghost use Prim.Native.Nat.{_≤_};
 ghost use lib.ListN.{length};
-ghost use Rattle.numbers.specs.Numbers.{isResting};
+ghost use Rattle.resting.specs.Rests.{isResting};
 ghost use Rattle.order_list.specs.Lists.{orderCount};
 ghost use Rattle.desk.specs.Desks.{rest};
 ghost use Rattle.desk.specs.Steps.{seated, seatedAll};
 ghost use Rattle.desk.specs.Rooms.{Room, RoomForAll};
 use crate::Desk;
 use condition::Slot;
-use numbers::Ended;
 use order_list::Order;
 use places::Place;
+use resting::Ended;
 
 // What changes while orders arrive.
 pub struct Seats {

@@ -3,13 +3,13 @@ ghost use mathlib.Core.List.{map};
 ghost use mathlib.Core.Path.{_≡_};
 ghost use Prim.Native.Nat.{_<_, _≤_};
 ghost use lib.ListN.{length};
-ghost use Rattle.numbers.specs.Numbers.{endedAt};
+ghost use Rattle.resting.specs.Rests.{endedAt};
 ghost use Rattle.desk.specs.Steps.{keptPlace, endedEntry, endedNumbers};
 use condition::SLOTS;
 use condition::Slot;
-use numbers::Ended;
-use numbers::KEPT;
 use places::Place;
+use resting::Ended;
+use resting::KEPT;
 
 // What an order that stays takes from the list, or a free place.
 fn kept_place(list: &[u8], place: Place) -> Place

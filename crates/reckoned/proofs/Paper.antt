@@ -17,7 +17,8 @@ use Rattle.telegram.specs.Telegrams as Telegrams′
 use Rattle.order_list.specs.Lists.{orderAt, listedAt}
 use Rattle.places.specs.Places.{placeOf}
 use Rattle.orders.specs.Orders.{isRetyped, orderRows, listRows}
-use Rattle.numbers.specs.Numbers.{restsBy, isResting, hasNumber, nextNumber}
+use Rattle.resting.specs.Rests.{restsBy, isResting}
+use Rattle.numbers.specs.Numbers.{hasNumber, nextNumber}
 use Rattle.desk.specs.Desks.{freshWith, acceptOf, tableOf}
 use Rattle.desk.specs.Runs.{run}
 use Rattle.desk.specs.Steps.{keptPlace, endedEntry, endedNumbers, seated, seatedAll, stepOf}

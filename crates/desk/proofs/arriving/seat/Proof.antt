@@ -11,7 +11,8 @@ use Rattle.condition.specs.declared.slots.Body.{Body}
 use Rattle.places.specs.Places.{placeOf, isLive}
 use Rattle.condition.specs.Slots.{slots}
 use Rattle.order_list.specs.declared.Order.{Order}
-use Rattle.numbers.specs.Numbers.{isResting, nextNumber}
+use Rattle.resting.specs.Rests.{isResting}
+use Rattle.numbers.specs.Numbers.{nextNumber}
 use Rattle.desk.specs.Desks.{rest}
 use Rattle.desk.specs.Steps.{bodyIn, seated}
 use Rattle.desk.specs.declared.arriving.Seats.{Seats}

@@ -7,10 +7,10 @@ use borrow.Author.Needs.{needs}
 use lib.ListN.{length}
 use Rattle.kit.specs.Loops.{any}
 use Rattle.kit.proofs.Loops.{scan-go, scan-hit, scan-end}
-use Rattle.numbers.specs.Numbers.{restsBy, isResting, endedAt}
-use Rattle.numbers.specs.declared.Ended.{Ended}
-use Rattle.numbers.proofs.is_resting.Statement.{statement}
-use Rattle.numbers.proofs.is_resting.Tie as tie
+use Rattle.resting.specs.Rests.{restsBy, isResting, endedAt}
+use Rattle.resting.specs.declared.Ended.{Ended}
+use Rattle.resting.proofs.is_resting.Statement.{statement}
+use Rattle.resting.proofs.is_resting.Tie as tie
 
 abbrev rests : ℕ → ℕ → ℕ → List Ended → ℕ → Bool
 rests rest step number ended i = restsBy rest step number (endedAt ended i)

@@ -2,9 +2,9 @@
 use mathlib.Core.Path.{sym}
 use borrow.Author.Needs.{needs}
 use borrow.Author.Tests.{eq-eqb, ne-eqb}
-use Rattle.numbers.specs.Numbers.{restsBy}
-use Rattle.numbers.proofs.rests_by.Statement.{statement}
-use Rattle.numbers.proofs.rests_by.Tie as tie
+use Rattle.resting.specs.Rests.{restsBy}
+use Rattle.resting.proofs.rests_by.Statement.{statement}
+use Rattle.resting.proofs.rests_by.Tie as tie
 
 returns : tie.Need-returns
 unfolding restsBy
