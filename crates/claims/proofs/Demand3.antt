@@ -15,7 +15,7 @@ use Rattle.telegram.proofs.ReadAgain.{read-again}
 use Rattle.telegram.proofs.Refusals.{packet-fills}
 use Rattle.desk.specs.Desks.{rest as eight, telegramOf}
 use Rattle.desk.proofs.Tables.{telegram-is, packet-sendable}
-use Rattle.picture.proofs.Carrying.{mark-at, carried-exactly, none-carried}
+use Rattle.marks.proofs.Carrying.{mark-at, carried-exactly, none-carried}
 use Rattle.listener.specs.Listeners.{carries, markAt}
 use Rattle.listener.proofs.Hearing.{fresh-unmarked}
 use Rattle.claims.specs.Calls.{deskOf, tableIn}

@@ -12,18 +12,20 @@ use borrow.Author.Tests.{eqb-true, eqb-false, eq-eqb, ne-eqb}
 use Rattle.kit.proofs.Cases.{on, clash, given}
 use Rattle.wire.specs.Steps.{steps}
 use Rattle.wire.specs.Verdicts.{numberOf}
-use Rattle.wire.proofs.Round.{gap-true}
 use Rattle.condition.specs.declared.slots.Slot.{Slot}
 use Rattle.wire.specs.declared.verdicts.Verdict.the-variants.{Accepted}
 use Rattle.telegram.specs.Tables.{packets, firstPacket, fourOf}
 use Rattle.condition.specs.Slots.{slots}
 use Rattle.telegram.specs.declared.Telegram.{Telegram}
-use Rattle.picture.specs.Pictures.{countOf, clashes, marksOf}
+use Rattle.picture.specs.Pictures.{countOf, clashes}
+use Rattle.marks.specs.Marks.{marksOf}
 use Rattle.hand.specs.Sets.{begun, setFor, isHeld, joined, isWhole as isGathered}
-use Rattle.listener.specs.Listeners.{freshListener, isLast, gapFrom, holding, takenBy, takenAnswer, heardOf, hearOf}
+use Rattle.last_step.specs.LastSteps.{isLast, gapFrom}
+use Rattle.listener.specs.Listeners.{freshListener, holding, takenBy, takenAnswer, heardOf, hearOf}
 use Rattle.listener.specs.declared.Answer.the-variants.{Refused as refused, Taken}
 use Rattle.listener.specs.declared.Heard.{Heard}
-use Rattle.listener.specs.declared.Last.the-variants.{Step}
+use Rattle.last_step.specs.declared.Last.the-variants.{Step}
+use Rattle.last_step.proofs.Taken.{never-last, never-gap, same-last, other-last, step-gap}
 use Rattle.listener.specs.declared.Listener.{Listener}
 use Rattle.hand.specs.declared.Hand.{Hand}
 use Rattle.hand.proofs.Gathering.{Gathered, gathered-none, gathered-as, gathered-held, gathered-more, gathered-whole, gathered-table, set-same, set-other, set-first}
@@ -102,7 +104,7 @@ module _ (rest limit : ℕ) {Message : Type 0} (binding : Binding Message) (call
     follow-old : (l : Listener) (before : List ℕ) → wholes r ≡ n ∷ before → 3 ≤ p → p ≤ 7 → Rel r l → Follows (sent n p) r (heardOf limit l (packetOf n p))
     unfolding Follows
     follow-old l before newest low high v =
-        let last : isLast (l .last) (n % steps) ≡ true = rw (v .shown .last, newest) (eq-eqb (n % steps) (n % steps) refl) in
+        let last : isLast (l .last) (n % steps) ≡ true = rw (v .shown .last, newest) (same-last (n % steps)) in
         rw (heard-last limit l (packetOf n p) last, packet-heard r n p w low high) (
           record { shown = subst (λ s. Shown s l) (sym (wholes-old n p r w)) (v .shown); hand = hand-old (l .hand) (v .hand) },
           refl,
@@ -122,15 +124,15 @@ module _ (rest limit : ℕ) {Message : Type 0} (binding : Binding Message) (call
     not-last l v = rw (v .last) (go (wholes r) refl)
       where
         go : (whole : List ℕ) → wholes r ≡ whole → isLast (lastOf rest limit binding calls whole) (n % steps) ≡ false
-        go [] e = refl
-        go (m ∷ before) e = ne-eqb (m % steps) (n % steps) (steps-apart m n (newest-near m before e .0) (newest-near m before e .1))
+        go [] e = never-last (n % steps)
+        go (m ∷ before) e = other-last (m % steps) (n % steps) (steps-apart m n (newest-near m before e .0) (newest-near m before e .1))
 
     gap-is : (l : Listener) → Shown (wholes r) l → gapFrom (l .last) (n % steps) ≡ distance rest limit binding calls (wholes r) n
     gap-is l v = rw (v .last) (go (wholes r) refl)
       where
         go : (whole : List ℕ) → wholes r ≡ whole → gapFrom (lastOf rest limit binding calls whole) (n % steps) ≡ distance rest limit binding calls whole n
-        go [] e = refl
-        go (m ∷ before) e = gap-true m n (omega (arith, newest-near m before e .0)) (omega (arith, newest-near m before e .1))
+        go [] e = never-gap (n % steps)
+        go (m ∷ before) e = step-gap m n (omega (arith, newest-near m before e .0)) (omega (arith, newest-near m before e .1))
 
     -- the set that it goes into holds what was heard of its step
     ready : (hand : Hand) → InHand r hand → Gathered (T n) (n % steps) (got r n) (setFor hand (n % steps))

@@ -17,7 +17,8 @@ use Rattle.wire.specs.Verdicts.{numberOf}
 use Rattle.wire.specs.declared.verdicts.Verdict.the-variants.{Accepted as Passed}
 use Rattle.condition.proofs.Coding.{held-occupied}
 use Rattle.telegram.specs.Tables.{tableSlot}
-use Rattle.orders.specs.Orders.{listRefusal, placeAt}
+use Rattle.places.specs.Places.{placeAt}
+use Rattle.orders.specs.Orders.{listRefusal}
 use Rattle.desk.specs.Desks.{acceptOf}
 use Rattle.desk.specs.Runs.{run, Accepted, Stood, InNewest}
 use Rattle.desk.specs.Steps.{stepOf}
@@ -28,7 +29,8 @@ use Rattle.desk.proofs.Stepping.{Sound}
 use Rattle.desk.proofs.Tables.{table-at, table-held, table-long, table-distinct}
 use Rattle.desk.proofs.Tracing.{at, run-none, run-more, run-sound, run-step, same-number, persists, live-newest, newest-live}
 use Rattle.picture.specs.Pictures.{clashes}
-use Rattle.picture.proofs.Carrying.{InPicture, no-clash}
+use Rattle.picture.proofs.Clashing.{no-clash}
+use Rattle.marks.proofs.Carrying.{InPicture}
 use Rattle.claims.specs.Calls.{deskAfter, accepted, stepsMade, upTo, deskOf, tableIn, orderIn, StoodIn, StoodFrom}
 
 module _ (rest : ℕ) where

@@ -6,7 +6,7 @@ use lib.Dec.{eqb, ltb}
 use lib.ListN.{length}
 use Rattle.wire.specs.Verdicts.{numberOf}
 use Rattle.condition.specs.declared.slots.Slot.{Slot}
-use Rattle.orders.specs.Orders.{placeAt}
+use Rattle.places.specs.Places.{placeAt}
 use Rattle.desk.specs.Desks.{freshWith, acceptOf, tableOf}
 use Rattle.desk.specs.Runs.{InNewest}
 use Rattle.desk.specs.declared.Desk.{Desk}

@@ -29,8 +29,8 @@ use Rattle.picture.specs.Pictures.{countOf}
 use Rattle.listener.specs.Listeners.{carries, freshListener, hearOf, markAt}
 use Rattle.listener.specs.declared.Answer.{Answer}
 use Rattle.listener.specs.declared.Answer.the-variants.{Refused as refused, Repeat, Held, Taken}
-use Rattle.listener.specs.declared.Last.{Last}
-use Rattle.listener.specs.declared.Last.the-variants.{Never, Step}
+use Rattle.last_step.specs.declared.Last.{Last}
+use Rattle.last_step.specs.declared.Last.the-variants.{Never, Step}
 use Rattle.listener.specs.declared.Listener.{Listener}
 use Rattle.claims.specs.Calls.{stepsMade, deskOf, tableIn, orderIn, StoodFrom}
 use Rattle.claims.specs.Hearings.{Item, sent, spoilt, wasHeard, isWhole, wholes, NoneAfter, Near}

@@ -10,12 +10,14 @@ use lib.Dec.{eqb}
 use borrow.Author.Tests.{eqb-false, ne-eqb}
 use Rattle.kit.proofs.Cases.{on, given}
 use Rattle.kit.proofs.Maps.{map-at}
-use Rattle.orders.specs.Orders.{orderNamed, orderCount, listedAt, freePlace, placeAt}
+use Rattle.order_list.specs.Lists.{orderNamed, orderCount, listedAt}
+use Rattle.places.specs.Places.{freePlace, placeAt}
 use Rattle.condition.specs.Slots.{slots}
-use Rattle.orders.specs.declared.Place.{Place}
-use Rattle.orders.proofs.Lists.{Fair, listed-there}
-use Rattle.numbers.specs.Numbers.{noneEnded, endedAt}
-use Rattle.numbers.specs.declared.Ended.{Ended}
+use Rattle.places.specs.declared.Place.{Place}
+use Rattle.order_list.proofs.Listed.{listed-there}
+use Rattle.orders.proofs.Lists.{Fair}
+use Rattle.resting.specs.Rests.{noneEnded, endedAt}
+use Rattle.resting.specs.declared.Ended.{Ended}
 use Rattle.desk.specs.Steps.{stays, bodyIn, keptPlace, endedEntry, endedNumbers}
 
 -- ---- places

@@ -8,9 +8,10 @@ use borrow.Author.Tests.{eqb-true, eqb-false, ne-eqb}
 use Rattle.kit.proofs.Cases.{on}
 use Rattle.wire.proofs.Answers.{verdict-accepted, verdict-refused}
 use Rattle.wire.specs.declared.verdicts.Verdict.the-variants.{Accepted as accepted, Refused}
-use Rattle.orders.specs.Orders.{orderCount, listRefusal}
+use Rattle.order_list.specs.Lists.{orderCount}
+use Rattle.orders.specs.Orders.{listRefusal}
 use Rattle.orders.proofs.Lists.{fair}
-use Rattle.numbers.specs.Numbers.{isResting}
+use Rattle.resting.specs.Rests.{isResting}
 use Rattle.desk.specs.declared.Desk.{Desk}
 use Rattle.desk.specs.Desks.{rest, acceptOf, Made, made, called}
 use Rattle.desk.specs.Runs.{run, Accepted}

@@ -14,16 +14,20 @@ use Rattle.wire.proofs.Answers.{refused-when, accepted-when}
 use Rattle.condition.specs.Slots.{codedOf}
 use Rattle.wire.specs.declared.verdicts.Verdict.the-variants.{Accepted, Refused}
 use Rattle.telegram.specs.Telegrams.{readOf, bytesOf}
-use Rattle.orders.specs.Orders.{orderAt, placeOf, stands, orderNamed, placeAt, isLive, listRows, listRefusal}
+use Rattle.order_list.specs.Lists.{orderAt, stands, orderNamed}
+use Rattle.places.specs.Places.{placeOf, placeAt, isLive}
+use Rattle.orders.specs.Orders.{listRows, listRefusal}
 use Rattle.orders.proofs.Lists.{fair}
 use Rattle.orders.proofs.Rows.{list-numbered}
 use Rattle.desk.specs.Desks.{rest, acceptOf, telegramOf, Made}
 use Rattle.desk.specs.Steps.{bodyIn, keptPlace}
 use Rattle.desk.specs.Runs.{run, Accepted as Accepted-run}
 use Rattle.desk.specs.declared.Desk.{Desk}
-use Rattle.numbers.specs.Numbers.{isResting, isPermitted, nextNumber, numberAfter}
-use Rattle.numbers.specs.declared.Ended.{Ended}
-use Rattle.numbers.proofs.Search.{covers-resting, number-permitted}
+use Rattle.resting.specs.Rests.{isResting}
+use Rattle.numbers.specs.Numbers.{isPermitted, nextNumber, numberAfter}
+use Rattle.resting.specs.declared.Ended.{Ended}
+use Rattle.resting.proofs.Rested.{covers-resting}
+use Rattle.numbers.proofs.Search.{number-permitted}
 use Rattle.desk.proofs.Tracing.{at, rested}
 use Rattle.desk.proofs.Turns.{OneNew, passed-over, given-again}
 use Rattle.desk.proofs.Making.{accepts, refuses, made-sound}

@@ -9,9 +9,9 @@ use native.Mathlib.Omega.{arith}
 use Rattle.kit.proofs.Cases.{on, given}
 use Rattle.condition.specs.Slots.{slots}
 use Rattle.orders.proofs.Lists.{fair}
-use Rattle.numbers.specs.Numbers.{endedAt, isResting}
-use Rattle.numbers.specs.declared.Ended.{Ended}
-use Rattle.numbers.proofs.Search.{resting-some, resting-when}
+use Rattle.resting.specs.Rests.{endedAt, isResting}
+use Rattle.resting.specs.declared.Ended.{Ended}
+use Rattle.resting.proofs.Rested.{resting-some, resting-when}
 use Rattle.desk.specs.Runs.{run, Accepted, EndedAgo}
 use Rattle.desk.proofs.Seating.{inside}
 use Rattle.desk.proofs.Stepping.{Sound, Entry, begun, moved, entry, rests, moves}

@@ -22,10 +22,13 @@ use Rattle.condition.specs.Slots.{slotRows, codedOf, Held, slots}
 use Rattle.condition.specs.declared.slots.Coded.{Coded}
 use Rattle.condition.specs.declared.slots.Slot.{Slot}
 use Rattle.condition.proofs.Coding.{filled-silent, read-held, coded-back}
-use Rattle.orders.specs.Orders.{stands, orderAt, orderCount, listedAt, freePlace, placeAt, placeOf, isLive}
-use Rattle.orders.specs.declared.Order.{Order}
-use Rattle.orders.specs.declared.Place.{Place}
-use Rattle.orders.proofs.Lists.{Fair, listed-there, listed-when, live-there, live-none, live-when}
+use Rattle.order_list.specs.Lists.{stands, orderAt, orderCount, listedAt}
+use Rattle.places.specs.Places.{freePlace, placeAt, placeOf, isLive}
+use Rattle.order_list.specs.declared.Order.{Order}
+use Rattle.places.specs.declared.Place.{Place}
+use Rattle.order_list.proofs.Listed.{listed-there, listed-when}
+use Rattle.places.proofs.Live.{live-there, live-none, live-when}
+use Rattle.orders.proofs.Lists.{Fair}
 use Rattle.numbers.specs.Numbers.{nextNumber}
 use Rattle.numbers.proofs.Search.{number-range, number-idle, number-rested}
 use Rattle.desk.specs.Steps.{bodyIn, seated, seatedAll}

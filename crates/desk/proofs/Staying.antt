@@ -9,9 +9,12 @@ use lib.ListN.{length-map}
 use native.Mathlib.Omega.{arith}
 use Rattle.kit.proofs.Cases.{on}
 use Rattle.condition.specs.Slots.{codedOf, Held}
-use Rattle.orders.specs.Orders.{stands, orderNamed, orderAt, orderCount, listedAt, freePlace, placeAt, placeOf, isLive}
-use Rattle.orders.specs.declared.Place.{Place}
-use Rattle.orders.proofs.Lists.{Fair, listed-there, live-when, type-kept}
+use Rattle.order_list.specs.Lists.{stands, orderNamed, orderAt, orderCount, listedAt}
+use Rattle.places.specs.Places.{freePlace, placeAt, placeOf, isLive}
+use Rattle.places.specs.declared.Place.{Place}
+use Rattle.order_list.proofs.Listed.{listed-there}
+use Rattle.places.proofs.Live.{live-when}
+use Rattle.orders.proofs.Lists.{Fair, type-kept}
 use Rattle.desk.specs.Steps.{stays, bodyIn, keptPlace}
 use Rattle.desk.proofs.Endings.{kept-stays, kept-ends, kept-at}
 use Rattle.desk.proofs.Seating.{Distinct, Orderly, inside, live-at, made-held, made-kind}

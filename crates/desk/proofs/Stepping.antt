@@ -13,13 +13,16 @@ use borrow.Author.Tests.{ltb-true, ltb-false}
 use Rattle.kit.proofs.Cases.{on, clash, given}
 use Rattle.wire.specs.Steps.{steps, gapOf}
 use Rattle.wire.proofs.Round.{gap-round, gap-only}
-use Rattle.orders.specs.Orders.{orderNamed, stands, orderAt, orderCount, listedAt, freePlace, placeAt, placeOf, isLive}
+use Rattle.order_list.specs.Lists.{orderNamed, stands, orderAt, orderCount, listedAt}
+use Rattle.places.specs.Places.{freePlace, placeAt, placeOf, isLive}
 use Rattle.condition.specs.Slots.{slots}
-use Rattle.orders.specs.declared.Place.{Place}
-use Rattle.orders.proofs.Lists.{listed-self, Fair, listed-there, listed-when, live-there}
-use Rattle.numbers.specs.Numbers.{noneEnded, endedAt, isResting}
-use Rattle.numbers.specs.declared.Ended.{Ended}
-use Rattle.numbers.proofs.Search.{covers-resting, resting-when}
+use Rattle.places.specs.declared.Place.{Place}
+use Rattle.order_list.proofs.Listed.{listed-there, listed-when}
+use Rattle.places.proofs.Live.{live-there}
+use Rattle.orders.proofs.Lists.{listed-self, Fair}
+use Rattle.resting.specs.Rests.{noneEnded, endedAt, isResting}
+use Rattle.resting.specs.declared.Ended.{Ended}
+use Rattle.resting.proofs.Rested.{covers-resting, resting-when}
 use Rattle.desk.specs.Steps.{bodyIn, nextStep, keptPlace, endedNumbers, seatedAll, stepOf}
 use Rattle.desk.specs.Rooms.{RoomForAll}
 use Rattle.desk.specs.declared.Desk.{Desk}

@@ -13,8 +13,8 @@ use Rattle.telegram.specs.Telegrams.{readOf, bytesOf, written}
 use Rattle.telegram.proofs.Refusals.{packet-fills}
 use Rattle.telegram.proofs.Carried.{table-sendable, slot-carried}
 use Rattle.telegram.proofs.ReadAgain.{read-again}
-use Rattle.orders.specs.Orders.{freePlace, placeAt}
-use Rattle.orders.specs.declared.Place.{Place}
+use Rattle.places.specs.Places.{freePlace, placeAt}
+use Rattle.places.specs.declared.Place.{Place}
 use Rattle.desk.specs.Desks.{tableOf, telegramOf}
 use Rattle.desk.specs.declared.Desk.{Desk}
 use Rattle.desk.proofs.Stepping.{Sound}

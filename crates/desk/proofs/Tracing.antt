@@ -13,11 +13,13 @@ use Rattle.kit.proofs.Cases.{on, clash, given}
 use Rattle.kit.proofs.Maps.{replicate-at}
 use Rattle.condition.specs.Slots.{codedOf, slots}
 use Rattle.wire.specs.Steps.{steps}
-use Rattle.orders.specs.Orders.{stands, freePlace, placeAt, placeOf}
-use Rattle.orders.specs.declared.Place.{Place}
-use Rattle.orders.proofs.Lists.{Fair, fair, live-there, live-when}
-use Rattle.numbers.specs.Numbers.{noneEnded, endedAt}
-use Rattle.numbers.specs.declared.Ended.{Ended}
+use Rattle.order_list.specs.Lists.{stands}
+use Rattle.places.specs.Places.{freePlace, placeAt, placeOf}
+use Rattle.places.specs.declared.Place.{Place}
+use Rattle.places.proofs.Live.{live-there, live-when}
+use Rattle.orders.proofs.Lists.{Fair, fair}
+use Rattle.resting.specs.Rests.{noneEnded, endedAt}
+use Rattle.resting.specs.declared.Ended.{Ended}
 use Rattle.desk.specs.declared.Desk.{Desk}
 use Rattle.desk.specs.Desks.{freshWith}
 use Rattle.desk.specs.Runs.{run, Accepted, Stood, InNewest}

@@ -13,11 +13,15 @@ use borrow.Author.Tests.{eqb-true, eqb-false, lt-ltb}
 use Rattle.kit.specs.Loops.{fold}
 use Rattle.kit.proofs.Cases.{on, clash, given}
 use Rattle.kit.proofs.Loops.{fold-none, fold-more}
-use Rattle.orders.specs.Orders.{stands, orderAt, orderCount, freePlace, placeAt, placeOf, isLive}
+use Rattle.order_list.specs.Lists.{stands, orderAt, orderCount}
+use Rattle.places.specs.Places.{freePlace, placeAt, placeOf, isLive}
 use Rattle.condition.specs.Slots.{slots}
-use Rattle.orders.specs.declared.Place.{Place}
-use Rattle.orders.proofs.Lists.{Fair, fair, listed-when, live-there, live-when}
-use Rattle.numbers.specs.Numbers.{isResting, hasNumber, isPermitted, nextNumber, numberAfter}
+use Rattle.places.specs.declared.Place.{Place}
+use Rattle.order_list.proofs.Listed.{listed-when}
+use Rattle.places.proofs.Live.{live-there, live-when}
+use Rattle.orders.proofs.Lists.{Fair, fair}
+use Rattle.resting.specs.Rests.{isResting}
+use Rattle.numbers.specs.Numbers.{hasNumber, isPermitted, nextNumber, numberAfter}
 use Rattle.numbers.proofs.Search.{number-first, number-some}
 use Rattle.desk.specs.Runs.{run, Accepted, EndedAgo}
 use Rattle.desk.specs.Steps.{keptPlace, seated, seatedAll, stepOf, nextStep, endedNumbers}

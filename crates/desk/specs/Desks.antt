@@ -8,10 +8,11 @@ use Rattle.wire.specs.Verdicts.{verdictOf}
 use Rattle.condition.specs.declared.slots.Slot.{Slot}
 use Rattle.telegram.specs.Tables.{fourOf}
 use Rattle.telegram.specs.declared.Telegram.{Telegram}
-use Rattle.orders.specs.Orders.{freePlace, listRefusal}
+use Rattle.places.specs.Places.{freePlace}
+use Rattle.orders.specs.Orders.{listRefusal}
 use Rattle.condition.specs.Slots.{slots}
-use Rattle.orders.specs.declared.Place.{Place}
-use Rattle.numbers.specs.Numbers.{noneEnded}
+use Rattle.places.specs.declared.Place.{Place}
+use Rattle.resting.specs.Rests.{noneEnded}
 use Rattle.desk.specs.declared.Desk.{Desk}
 use Rattle.desk.specs.declared.Answer.{Answer}
 use Rattle.desk.specs.Steps.{stepOf}

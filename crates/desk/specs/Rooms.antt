@@ -4,9 +4,10 @@ use Prim.Native.Nat.{ℕ, _<_}
 use mathlib.Core.Path.{_≡_}
 use mathlib.Core.Bool.{Bool, false}
 use mathlib.Core.List.{List}
-use Rattle.orders.specs.Orders.{orderAt, lowestFree, isLive}
+use Rattle.order_list.specs.Lists.{orderAt}
+use Rattle.places.specs.Places.{lowestFree, isLive}
 use Rattle.condition.specs.Slots.{slots}
-use Rattle.orders.specs.declared.Order.{Order}
+use Rattle.order_list.specs.declared.Order.{Order}
 use Rattle.desk.specs.Steps.{seatedAll}
 use Rattle.desk.specs.declared.arriving.Seats.{Seats}
 

@@ -4,7 +4,9 @@ use Prim.Native.Nat.{ℕ, zero, suc, _≤_}
 use mathlib.Core.Path.{_≡_}
 use mathlib.Core.Bool.{true, false}
 use mathlib.Core.List.{List, [], _∷_}
-use Rattle.orders.specs.Orders.{stands, placeAt, listRefusal}
+use Rattle.order_list.specs.Lists.{stands}
+use Rattle.places.specs.Places.{placeAt}
+use Rattle.orders.specs.Orders.{listRefusal}
 use Rattle.desk.specs.declared.Desk.{Desk}
 use Rattle.desk.specs.Desks.{freshWith}
 use Rattle.desk.specs.Steps.{stepOf}

@@ -8,11 +8,13 @@ use Rattle.kit.specs.Loops.{fold}
 use Rattle.condition.specs.Slots.{bodyOf}
 use Rattle.wire.specs.Steps.{steps}
 use Rattle.condition.specs.declared.slots.Body.{Body}
-use Rattle.orders.specs.Orders.{lowestFree, stands, orderNamed, orderAt, orderCount, freePlace, isLive}
-use Rattle.orders.specs.declared.Order.{Order}
-use Rattle.orders.specs.declared.Place.{Place}
-use Rattle.numbers.specs.Numbers.{noneEnded, isResting, nextNumber}
-use Rattle.numbers.specs.declared.Ended.{Ended}
+use Rattle.order_list.specs.Lists.{stands, orderNamed, orderAt, orderCount}
+use Rattle.places.specs.Places.{lowestFree, freePlace, isLive}
+use Rattle.order_list.specs.declared.Order.{Order}
+use Rattle.places.specs.declared.Place.{Place}
+use Rattle.resting.specs.Rests.{noneEnded, isResting}
+use Rattle.numbers.specs.Numbers.{nextNumber}
+use Rattle.resting.specs.declared.Ended.{Ended}
 use Rattle.desk.specs.declared.Desk.{Desk}
 use Rattle.desk.specs.declared.arriving.Seats.{Seats}
 

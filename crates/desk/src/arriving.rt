@@ -2,16 +2,16 @@
 ghost use mathlib.Core.Path.{_≡_};
 ghost use Prim.Native.Nat.{_≤_};
 ghost use lib.ListN.{length};
-ghost use Rattle.numbers.specs.Numbers.{isResting};
-ghost use Rattle.orders.specs.Orders.{orderCount};
+ghost use Rattle.resting.specs.Rests.{isResting};
+ghost use Rattle.order_list.specs.Lists.{orderCount};
 ghost use Rattle.desk.specs.Desks.{rest};
 ghost use Rattle.desk.specs.Steps.{seated, seatedAll};
 ghost use Rattle.desk.specs.Rooms.{Room, RoomForAll};
 use crate::Desk;
 use condition::Slot;
-use numbers::Ended;
-use orders::Order;
-use orders::Place;
+use order_list::Order;
+use places::Place;
+use resting::Ended;
 
 // What changes while orders arrive.
 pub struct Seats {
@@ -25,11 +25,11 @@ fn seat(seats: Seats, ended: [Ended; 160], step: u16, order: Order) -> Seats
     ensures { λ r. ⌜ r ≡ seated (isResting rest step ended) order seats ⌝ }
 {
     let mut places = seats.places;
-    if orders::place_of(places, order.number) < Desk::SLOTS {
+    if places::place_of(places, order.number) < Desk::SLOTS {
         return seats;
     }
     let number = numbers::next_number(places, ended, seats.last, Desk::REST, step);
-    let at = orders::place_of(places, 0);
+    let at = places::place_of(places, 0);
     places[at] = Place {
         order: order.number,
         slot: Slot {
@@ -50,11 +50,11 @@ pub fn seat_all(kept: [Place; 20], last: u8, ended: [Ended; 160], step: u16, lis
     ensures { λ r. ⌜ r
         ≡ seatedAll (isResting rest step ended) (now (list .entry)) (record { places = kept; last = last }) (orderCount (now (list .entry))) ⌝ }
 {
-    let n = (list.len() / orders::LENGTH) as u8;
+    let n = (list.len() / order_list::LENGTH) as u8;
     let mut seats = Seats { places: kept, last };
     let mut j: u8 = 0;
     while j < n {
-        seats = seat(seats, ended, step, orders::order_at(list, j));
+        seats = seat(seats, ended, step, order_list::order_at(list, j));
         j += 1;
     }
     seats

@@ -3,23 +3,23 @@ ghost use mathlib.Core.List.{map};
 ghost use mathlib.Core.Path.{_≡_};
 ghost use Prim.Native.Nat.{_<_, _≤_};
 ghost use lib.ListN.{length};
-ghost use Rattle.numbers.specs.Numbers.{endedAt};
+ghost use Rattle.resting.specs.Rests.{endedAt};
 ghost use Rattle.desk.specs.Steps.{keptPlace, endedEntry, endedNumbers};
 use condition::SLOTS;
 use condition::Slot;
-use numbers::Ended;
-use numbers::KEPT;
-use orders::Place;
+use places::Place;
+use resting::Ended;
+use resting::KEPT;
 
 // What an order that stays takes from the list, or a free place.
 fn kept_place(list: &[u8], place: Place) -> Place
     requires { ⌜ length (now list) ≤ 200 ⌝ }
     ensures { λ r. ⌜ r ≡ keptPlace (now (list .entry)) place ⌝ }
 {
-    let n = (list.len() / orders::LENGTH) as u8;
-    let at = orders::listed_at(list, n, place.order);
+    let n = (list.len() / order_list::LENGTH) as u8;
+    let at = order_list::listed_at(list, n, place.order);
     if at < n {
-        let order = orders::order_at(list, at);
+        let order = order_list::order_at(list, at);
         return Place {
             order: place.order,
             slot: Slot {
@@ -53,8 +53,8 @@ fn ended_entry(list: &[u8], step: u16, place: Place) -> Ended
     if place.order == 0 {
         return Ended::none();
     }
-    let n = (list.len() / orders::LENGTH) as u8;
-    if orders::listed_at(list, n, place.order) < n {
+    let n = (list.len() / order_list::LENGTH) as u8;
+    if order_list::listed_at(list, n, place.order) < n {
         return Ended::none();
     }
     Ended {

@@ -4,8 +4,8 @@ mod arriving;
 mod leaving;
 
 use arriving::Seats;
-use numbers::Ended;
-use orders::Place;
+use places::Place;
+use resting::Ended;
 use wire::Verdict;
 ghost use mathlib.Core.Path.{_≡_};
 ghost use Rattle.orders.specs.Orders.{listRefusal};

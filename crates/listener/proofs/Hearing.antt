@@ -11,11 +11,13 @@ use Rattle.condition.specs.Slots.{slots, emptySlot}
 use Rattle.wire.specs.declared.verdicts.Verdict.the-variants.{Accepted, Refused}
 use Rattle.telegram.specs.declared.Reading.{Reading}
 use Rattle.telegram.specs.declared.Telegram.{Telegram}
-use Rattle.picture.specs.Pictures.{clashes, marksOf}
+use Rattle.picture.specs.Pictures.{clashes}
+use Rattle.marks.specs.Marks.{marksOf}
 use Rattle.hand.specs.Sets.{begun, setFor, isHeld, joined, isWhole}
-use Rattle.listener.specs.Listeners.{freshListener, markAt, gapFrom, isLast, holding, takenBy, takenAnswer, heardOf, afterReading, hearOf}
+use Rattle.last_step.specs.LastSteps.{gapFrom, isLast}
+use Rattle.listener.specs.Listeners.{freshListener, markAt, holding, takenBy, takenAnswer, heardOf, afterReading, hearOf}
 use Rattle.listener.specs.declared.Answer.the-variants.{Refused as refused, Repeat, Held}
-use Rattle.listener.specs.declared.Last.the-variants.{Never, Step}
+use Rattle.last_step.specs.declared.Last.the-variants.{Never, Step}
 use Rattle.listener.specs.declared.Listener.{Listener}
 use Rattle.hand.specs.declared.Hand.{Hand}
 

@@ -14,7 +14,8 @@ use Rattle.telegram.proofs.Refusals.{reading-refused, reading-accepted}
 use Rattle.telegram.proofs.Rows.{read-numbered}
 use Rattle.picture.specs.Pictures.{clashes}
 use Rattle.hand.specs.Sets.{begun, setFor, isHeld, joined, isWhole}
-use Rattle.listener.specs.Listeners.{isLast, holding, takenAnswer, takenBy, heardOf, hearOf, clashRow, hearRows, numberOf}
+use Rattle.last_step.specs.LastSteps.{isLast}
+use Rattle.listener.specs.Listeners.{holding, takenAnswer, takenBy, heardOf, hearOf, clashRow, hearRows, numberOf}
 use Rattle.listener.specs.declared.Answer.{Answer}
 use Rattle.listener.specs.declared.Answer.the-variants.{Refused as refused, Repeat, Held, Taken}
 use Rattle.listener.specs.declared.Heard.{Heard}

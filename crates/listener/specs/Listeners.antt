@@ -2,23 +2,22 @@
 use Prim.Native.Nat.{ℕ}
 use mathlib.Core.Bool.{Bool, false, not, _&&_}
 use mathlib.Core.List.{List, [], _∷_, _++_}
-use lib.Dec.{eqb}
 use lib.ListN.{getD, replicate}
 use Rattle.kit.specs.Ladder.{ladder}
 use Rattle.condition.specs.Slots.{emptySlot, slots}
-use Rattle.wire.specs.Steps.{gapOf}
 use Rattle.wire.specs.declared.verdicts.Verdict.{Verdict}
 use Rattle.wire.specs.declared.verdicts.Verdict.the-variants.{Accepted, Refused}
 use Rattle.telegram.specs.Telegrams.{readRows, readOf}
 use Rattle.telegram.specs.declared.Reading.{Reading}
 use Rattle.telegram.specs.declared.Telegram.{Telegram}
-use Rattle.picture.specs.Pictures.{countOf, clashes, marksOf}
+use Rattle.picture.specs.Pictures.{countOf, clashes}
+use Rattle.marks.specs.Marks.{marksOf}
 use Rattle.hand.specs.Sets.{begun, setFor, isHeld, joined, isWhole}
+use Rattle.last_step.specs.LastSteps.{isLast, gapFrom}
+use Rattle.last_step.specs.declared.Last.the-variants.{Never, Step}
 use Rattle.listener.specs.declared.Answer.{Answer}
 use Rattle.listener.specs.declared.Answer.the-variants.{Refused as refused, Repeat, Held, Taken}
 use Rattle.listener.specs.declared.Heard.{Heard}
-use Rattle.listener.specs.declared.Last.{Last}
-use Rattle.listener.specs.declared.Last.the-variants.{Never, Step}
 use Rattle.listener.specs.declared.Listener.{Listener}
 use Rattle.hand.specs.declared.Hand.{Hand}
 
@@ -30,16 +29,6 @@ carries = 8
 -- it is how a set of step 0 begins, and any other step number drops it.
 unfoldable pub freshListener : Listener
 freshListener = record { picture = replicate slots emptySlot; marks = replicate slots false; last = Never; hand = begun 0 }
-
--- L-01: whether a step number is that of the step last taken
-abbrev pub isLast : Last → ℕ → Bool
-isLast Never step = false
-isLast (Step last) step = eqb last step
-
--- L-05: the gap is the new step number less the last taken one, around 8,192; L-08: that of the first table is reported as 0
-abbrev pub gapFrom : Last → ℕ → ℕ
-gapFrom Never step = 0
-gapFrom (Step last) step = gapOf step last
 
 -- L-03: the listener with another set in hand
 abbrev pub holding : Listener → Hand → Listener

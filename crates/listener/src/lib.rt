@@ -1,21 +1,14 @@
 // The listener: it hears telegrams of any bytes and holds the picture, the last table that it heard whole, with a mark at each
 // entry that was carried on from the picture before. Packets of a table that is not yet whole are the set in hand.
-use condition::SLOTS;
 use condition::Slot;
 use hand::Hand;
+use last_step::Last;
 use telegram::Telegram;
 use wire::Verdict;
 ghost use mathlib.Core.Path.{_≡_};
-ghost use Rattle.telegram.specs.Tables.{tableSlot};
 ghost use Rattle.telegram.specs.Telegrams.{readOf};
 ghost use Rattle.hand.specs.Sets.{begun};
-ghost use Rattle.listener.specs.Listeners.{carries, freshListener, isLast, gapFrom, holding, takenAnswer, takenBy, heardOf, hearOf, markAt};
-
-// The step last taken. That there is none yet is this enum's word, and not that the step number is 0.
-pub enum Last {
-    Never,
-    Step(u16),
-}
+ghost use Rattle.listener.specs.Listeners.{carries, freshListener, holding, takenAnswer, takenBy, heardOf, hearOf};
 
 pub struct Listener {
     pub picture: [Slot; 20],
@@ -70,52 +63,6 @@ impl Listener {
             Verdict::Accepted => listen(self, reading.telegram),
         }
     }
-
-    // Slot i of the picture; past its end, an empty one.
-    pub fn slot(self, i: usize) -> Slot
-        ensures { λ r. ⌜ r ≡ tableSlot (self .picture) i ⌝ }
-    {
-        let picture = self.picture;
-        telegram::slot_in(picture, i)
-    }
-
-    // Whether the entry in slot i is carried; past the end, not.
-    pub fn mark(self, i: usize) -> bool
-        ensures { λ r. ⌜ r ≡ markAt (self .marks) i ⌝ }
-    {
-        let marks = self.marks;
-        if i < SLOTS {
-            return marks[i];
-        }
-        false
-    }
-
-    // The step last taken.
-    pub fn last(self) -> Last
-        ensures { λ r. ⌜ r ≡ self .last ⌝ }
-    {
-        self.last
-    }
-}
-
-// Whether a step number is that of the step last taken.
-fn is_last(last: Last, step: u16) -> bool
-    ensures { λ r. ⌜ r ≡ isLast last step ⌝ }
-{
-    match last {
-        Last::Never => false,
-        Last::Step(taken) => taken == step,
-    }
-}
-
-// The gap from the step last taken, 0 where there is none.
-fn gap_from(last: Last, step: u16) -> u16
-    ensures { λ r. ⌜ r ≡ gapFrom last step ⌝ }
-{
-    match last {
-        Last::Never => 0,
-        Last::Step(taken) => wire::gap(step, taken),
-    }
 }
 
 // The listener with another set in hand.
@@ -138,10 +85,10 @@ fn take(listener: Listener, set: Hand) -> Heard
     ensures { λ r. ⌜ r ≡ record { answer = takenAnswer listener set; listener = takenBy carries listener set } ⌝ }
 {
     let last = listener.last;
-    let gap = gap_from(last, set.step);
+    let gap = last_step::gap_from(last, set.step);
     let before = listener.picture;
     let slots = set.slots;
-    let marks = picture::marks_of(Listener::CARRIES, gap, before, slots);
+    let marks = marks::marks_of(Listener::CARRIES, gap, before, slots);
     let count = picture::count_of(slots);
     Heard {
         answer: Answer::Taken {
@@ -163,7 +110,7 @@ fn listen(listener: Listener, telegram: Telegram) -> Heard
     ensures { λ r. ⌜ r ≡ heardOf carries listener telegram ⌝ }
 {
     let last = listener.last;
-    if is_last(last, telegram.step) {
+    if last_step::is_last(last, telegram.step) {
         return Heard {
             answer: Answer::Repeat,
             listener,

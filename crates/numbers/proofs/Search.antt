@@ -1,4 +1,4 @@
--- Which numbers rest, which a live order has, and that the search for the next one finds the first permitted number.
+-- Which numbers a live order has, and that the search for the next one finds the first permitted number.
 --
 -- `permitted-exists` is what the search rests on (D-15): twenty numbers of places and at most 220 that may rest are fewer than 255,
 -- so of the 255 numbers after the last one given one is none of them.
@@ -9,58 +9,16 @@ use mathlib.Core.List.{List, _++_, map}
 use lib.Dec.{eqb, ltb}
 use lib.ListN.{length-map, length, length-append}
 use native.Mathlib.Omega.{arith}
-use borrow.Author.Tests.{eqb-true, eq-eqb, ltb-true, ltb-false, lt-ltb, not-true}
+use borrow.Author.Tests.{eqb-true, eq-eqb, ltb-true, ltb-false, not-true}
 use Rattle.kit.specs.Loops.{find}
 use Rattle.kit.specs.Member.{member}
 use Rattle.kit.proofs.Cases.{on, clash, given, or-neither, and-both}
 use Rattle.kit.proofs.Loops.{scan-at, find-before, found-there, found-when, any-none, any-some}
 use Rattle.kit.proofs.Member.{member-map, member-append, pigeonhole}
-use Rattle.wire.specs.Steps.{gapOf}
-use Rattle.orders.specs.Orders.{placeAt, freePlace}
+use Rattle.places.specs.Places.{placeAt, freePlace}
 use Rattle.condition.specs.Slots.{slots}
-use Rattle.orders.specs.declared.Place.{Place}
-use Rattle.numbers.specs.Numbers.{noneEnded, endedAt, restsBy, isResting, hasNumber, isPermitted, numberAfter, nextNumber}
-use Rattle.numbers.specs.declared.Ended.{Ended}
-
--- ---- the numbers that rest (D-12)
-
-module _ (rest step n : ℕ) where
-  rests-when : (entry : Ended) → entry .number ≡ n → gapOf step (entry .step) < rest → restsBy rest step n entry ≡ true
-  unfolding restsBy
-  rests-when entry e p = rw (eq-eqb (entry .number) n e, lt-ltb (gapOf step (entry .step)) rest p) refl
-
-  rests-only : (entry : Ended) → restsBy rest step n entry ≡ true → (entry .number ≡ n) × (gapOf step (entry .step) < rest)
-  unfolding restsBy
-  rests-only entry h =
-      given (and-both (eqb (entry .number) n) (ltb (gapOf step (entry .step)) rest) h)
-      (λ (a, b). (eqb-true (entry .number) n a, ltb-true (gapOf step (entry .step)) rest b))
-
-pub resting-none : (rest step : ℕ) (ended : List Ended) (n : ℕ) → isResting rest step ended n ≡ false → (i : ℕ) → i < length ended
-    → restsBy rest step n (endedAt ended i) ≡ false
-unfolding isResting
-resting-none rest step ended n h i p = any-none (λ i. restsBy rest step n (endedAt ended i)) 0 (length ended) h i (omega arith) (omega arith)
-
-pub resting-when : (rest step : ℕ) (ended : List Ended) (n i : ℕ) → i < length ended → endedAt ended i .number ≡ n
-    → gapOf step (endedAt ended i .step) < rest → isResting rest step ended n ≡ true
-resting-when rest step ended n i p e q =
-    on (isResting rest step ended n)
-    (λ t. t)
-    (λ t. absurd (clash (rests-when rest step n (endedAt ended i) e q) (resting-none rest step ended n t i p)))
-
-pub resting-some : (rest step : ℕ) (ended : List Ended) (n : ℕ) → isResting rest step ended n ≡ true
-    → (i : ℕ) × (i < length ended) × (endedAt ended i .number ≡ n) × (gapOf step (endedAt ended i .step) < rest)
-unfolding isResting
-resting-some rest step ended n h =
-    given (any-some (λ i. restsBy rest step n (endedAt ended i)) 0 (length ended) h)
-    (λ (i, a, b, e). given (rests-only rest step n (endedAt ended i) e) (λ (same, near). (i, omega arith, same, near)))
-
--- the numbers of the ended entries cover those that rest
-pub covers-resting : (rest step : ℕ) (ended : List Ended) (n : ℕ) → isResting rest step ended n ≡ true
-    → member n (map (λ (e : Ended). e .number) ended) ≡ true
-covers-resting rest step ended n h =
-    given (resting-some rest step ended n h)
-    (λ (i, p, same, near).
-    subst (λ (m : ℕ). member m (map (λ (e : Ended). e .number) ended) ≡ true) same (member-map (λ (e : Ended). e .number) noneEnded ended i p))
+use Rattle.places.specs.declared.Place.{Place}
+use Rattle.numbers.specs.Numbers.{hasNumber, isPermitted, numberAfter, nextNumber}
 
 -- ---- the numbers of live orders (D-12)
 

@@ -1,54 +1,15 @@
 // Which number a new order is given: the first permitted one after the last one given. A number is permitted if no live order has
 // it and it does not rest. How many steps a number rests is a figure that the desk hands in.
 use condition::SLOTS;
-use orders::Place;
+use places::Place;
+use resting::Ended;
 ghost use mathlib.Core.Path.{_≡_};
 ghost use Prim.Native.Nat.{_<_};
-ghost use Rattle.numbers.specs.Numbers.{noneEnded, restsBy, isResting, hasNumber, isPermitted, numberAfter, nextNumber};
-
-// How many numbers can have ended and still be kept.
-pub const KEPT: usize = 160;
+ghost use Rattle.resting.specs.Rests.{isResting};
+ghost use Rattle.numbers.specs.Numbers.{hasNumber, isPermitted, numberAfter, nextNumber};
 
 // How many numbers there are to give: 1 to 255.
 const NUMBERS: u16 = 255;
-
-// A number that an order had when it ended, and the step in which it did. Number 0: none.
-pub struct Ended {
-    pub number: u8,
-    pub step: u16,
-}
-
-impl Ended {
-    pub fn none() -> Self
-        ensures { λ r. ⌜ r ≡ noneEnded ⌝ }
-    {
-        Ended { number: 0, step: 0 }
-    }
-}
-
-// Whether a number rests in this step because of this entry.
-fn rests_by(entry: Ended, rest: u16, step: u16, number: u8) -> bool
-    ensures { λ r. ⌜ r ≡ restsBy rest step number entry ⌝ }
-{
-    if entry.number != number {
-        return false;
-    }
-    wire::gap(step, entry.step) < rest
-}
-
-// Whether a number rests in this step.
-fn is_resting(ended: [Ended; 160], rest: u16, step: u16, number: u8) -> bool
-    ensures { λ r. ⌜ r ≡ isResting rest step ended number ⌝ }
-{
-    let mut i: usize = 0;
-    while i < KEPT {
-        if rests_by(ended[i], rest, step, number) {
-            return true;
-        }
-        i += 1;
-    }
-    false
-}
 
 // Whether a live order has the number.
 fn has_number(places: [Place; 20], number: u8) -> bool
@@ -70,7 +31,7 @@ fn is_permitted(places: [Place; 20], ended: [Ended; 160], rest: u16, step: u16, 
     if has_number(places, number) {
         return false;
     }
-    !is_resting(ended, rest, step, number)
+    !resting::is_resting(ended, rest, step, number)
 }
 
 // The number that follows the last one given after so many others. 255 is followed by 1; 0 is never given.

@@ -1,54 +1,23 @@
--- What an accepted list of orders is, and what the two searches of a desk answer: that of a number in the list, and that of an
--- order's place.
+-- What an accepted list of orders is.
 use Prim.Native.Nat.{ℕ, _%_, _<_, _≤_}
 use mathlib.Core.Path.{_≡_, refl, sym}
 use mathlib.Core.Bool.{true, false}
 use mathlib.Core.List.{List}
-use lib.Dec.{eqb, ltb}
+use lib.Dec.{ltb}
 use lib.ListN.{length}
 use native.Mathlib.Omega.{arith}
-use borrow.Author.Tests.{eqb-true, eqb-false, eq-eqb, ltb-true, ltb-false, not-false}
+use borrow.Author.Tests.{eqb-true, eqb-false, ltb-true, ltb-false, not-false}
 use Rattle.kit.specs.Ladder.{Silent}
 use Rattle.kit.proofs.Cases.{on, given, and-second}
 use Rattle.condition.specs.Slots.{codedOf, slots}
 use Rattle.kit.proofs.Ladder.{silent-each}
-use Rattle.kit.proofs.Loops.{found-there, found-none, found-when}
 use Rattle.kinds.specs.Words.{isType, secondAllowed}
-use Rattle.orders.specs.Orders.{orderAt, orderCount, listedAt, isListed, placeAt, placeOf, isLive, isRetyped, orderRows, listRows, listRefusal}
-use Rattle.orders.specs.declared.Place.{Place}
+use Rattle.order_list.specs.Lists.{orderAt, orderCount, listedAt}
+use Rattle.places.specs.Places.{placeAt, placeOf, isLive}
+use Rattle.orders.specs.Orders.{isRetyped, orderRows, listRows, listRefusal}
+use Rattle.places.specs.declared.Place.{Place}
+use Rattle.order_list.proofs.Listed.{listed-there, listed-none, listed-when}
 use Rattle.orders.proofs.Rows.{list-accepted}
-
--- ---- the search of a number in the list
-
-module _ (list : List ℕ) (n o : ℕ) where
-  pub listed-there : isListed list n o ≡ true → (listedAt list n o < n) × (orderAt list (listedAt list n o) .number ≡ o)
-  unfolding listedAt
-  listed-there h = given (found-there (λ j. eqb (orderAt list j .number) o) n h) (λ (p, e). (p, eqb-true _ o e))
-
-  pub listed-none : (j : ℕ) → isListed list n o ≡ false → j < n → orderAt list j .number ≡ o → ⊥
-  unfolding listedAt
-  listed-none j h p = eqb-false _ o (found-none (λ i. eqb (orderAt list i .number) o) n j h p)
-
-  pub listed-when : (j : ℕ) → j < n → orderAt list j .number ≡ o → isListed list n o ≡ true
-  unfolding listedAt
-  listed-when j p e = found-when (λ i. eqb (orderAt list i .number) o) n j p (eq-eqb _ o e)
-
--- ---- the search of an order's place
-
-module _ (places : List Place) (o : ℕ) where
-  pub live-there : isLive places o ≡ true → (placeOf places o < slots) × (placeAt places (placeOf places o) .order ≡ o)
-  unfolding placeOf
-  live-there h = given (found-there (λ i. eqb (placeAt places i .order) o) slots h) (λ (p, e). (p, eqb-true _ o e))
-
-  pub live-none : (i : ℕ) → isLive places o ≡ false → i < slots → placeAt places i .order ≡ o → ⊥
-  unfolding placeOf
-  live-none i h p = eqb-false _ o (found-none (λ k. eqb (placeAt places k .order) o) slots i h p)
-
-  pub live-when : (i : ℕ) → i < slots → placeAt places i .order ≡ o → isLive places o ≡ true
-  unfolding placeOf
-  live-when i p e = found-when (λ k. eqb (placeAt places k .order) o) slots i p (eq-eqb _ o e)
-
--- ---- an accepted list
 
 -- R-01 to R-08 of a list that is not refused
 pub record Fair (places : List Place) (list : List ℕ) : Type 0 where

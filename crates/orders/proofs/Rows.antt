@@ -6,8 +6,9 @@ use mathlib.Core.List.{List}
 use native.Mathlib.Omega.{arith}
 use Rattle.kit.specs.Ladder.{Silent, Numbered}
 use Rattle.kit.proofs.Ladder.{numbered-each, passed-exactly}
-use Rattle.orders.specs.Orders.{orderCount, orderRows, listRows, listRefusal}
-use Rattle.orders.specs.declared.Place.{Place}
+use Rattle.order_list.specs.Lists.{orderCount}
+use Rattle.orders.specs.Orders.{orderRows, listRows, listRefusal}
+use Rattle.places.specs.declared.Place.{Place}
 
 -- every answer of these ladders is a number of document 01, and so not 0
 pub order-numbered : (places : List Place) (list : List ℕ) (j : ℕ) → Numbered (orderRows places list j)

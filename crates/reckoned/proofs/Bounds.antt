@@ -21,7 +21,8 @@ use Rattle.kinds.specs.Words.{isConsidered, secondAllowed, secondHeld}
 use Rattle.telegram.specs.Tables.{fourOf}
 use Rattle.telegram.specs.Telegrams.{readOf, readRows, codedAt, takenBefore, telegramOf, bytesOf, written}
 use Rattle.desk.specs.Desks.{rest, tableOf, telegramOf as deskTelegram}
-use Rattle.picture.specs.Pictures.{countOf, hasNumber, isTwice, clashes, isSame, isKnown, isCarried, marksOf}
+use Rattle.picture.specs.Pictures.{countOf, hasNumber, isTwice, clashes}
+use Rattle.marks.specs.Marks.{isSame, isKnown, isCarried, marksOf}
 use Rattle.listener.specs.Listeners.{carries, heardAll, freshListener, takenBy, heardOf, hearOf}
 use Rattle.hand.specs.Sets.{begun, setFor, isHeld, joined, isWhole}
 use Rattle.listener.specs.declared.Answer.{Answer}

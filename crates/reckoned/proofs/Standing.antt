@@ -16,9 +16,12 @@ use Rattle.wire.specs.Verdicts.{verdictOf}
 use Rattle.kinds.specs.Words.{isConsidered, secondAllowed, secondHeld}
 use Rattle.condition.specs.declared.slots.Body.the-variants.{Area}
 use Rattle.wire.specs.declared.verdicts.Verdict.the-variants.{Accepted}
-use Rattle.orders.specs.Orders.{freePlace, orderAt, listedAt, placeOf, orderRows, isRetyped, listRows}
-use Rattle.orders.specs.declared.Place.{Place}
-use Rattle.numbers.specs.Numbers.{noneEnded, restsBy, isResting, hasNumber, nextNumber}
+use Rattle.order_list.specs.Lists.{orderAt, listedAt}
+use Rattle.places.specs.Places.{freePlace, placeOf}
+use Rattle.orders.specs.Orders.{orderRows, isRetyped, listRows}
+use Rattle.places.specs.declared.Place.{Place}
+use Rattle.resting.specs.Rests.{noneEnded, restsBy, isResting}
+use Rattle.numbers.specs.Numbers.{hasNumber, nextNumber}
 use Rattle.desk.specs.Desks.{rest, freshWith, acceptOf, telegramOf as deskTelegram}
 use Rattle.desk.specs.Steps.{keptPlace, endedEntry, endedNumbers, seated, seatedAll, stepOf}
 use Rattle.desk.specs.declared.Desk.{Desk}

@@ -12,9 +12,11 @@ use Rattle.kit.proofs.Cases.{given}
 use Rattle.wire.specs.Steps.{steps, gapOf}
 use Rattle.kinds.specs.Words.{secondHeld, isConsidered}
 use Rattle.condition.specs.Slots.{bodyOf}
-use Rattle.orders.specs.Orders.{freePlace, orderAt, listedAt, placeOf}
-use Rattle.orders.specs.declared.Place.{Place}
-use Rattle.numbers.specs.Numbers.{noneEnded, restsBy, isResting, hasNumber, nextNumber}
+use Rattle.order_list.specs.Lists.{orderAt, listedAt}
+use Rattle.places.specs.Places.{freePlace, placeOf}
+use Rattle.places.specs.declared.Place.{Place}
+use Rattle.resting.specs.Rests.{noneEnded, restsBy, isResting}
+use Rattle.numbers.specs.Numbers.{hasNumber, nextNumber}
 use Rattle.desk.specs.Desks.{rest, freshWith}
 use Rattle.desk.specs.Runs.{run}
 use Rattle.desk.specs.Steps.{keptPlace, endedEntry, endedNumbers, seated, seatedAll, stepOf}

@@ -2,12 +2,20 @@
 use Prim.Native.Nat.{ℕ, zero, suc, _+_, _*_, _/_, _%_}
 use mathlib.Core.Bool.{true}
 use mathlib.Core.List.{List, [], _∷_, _++_, map}
-use lib.ListN.{replicate}
+use lib.ListN.{replicate, getD}
 use Rattle.kit.specs.Each.{each}
 use Rattle.wire.specs.Steps.{gapOf}
+use Rattle.wire.specs.declared.verdicts.Verdict.the-variants.{Accepted, Refused}
+use Rattle.condition.specs.Slots.{emptySlot}
+use Rattle.condition.specs.declared.slots.Body.{Body}
+use Rattle.condition.specs.declared.slots.Body.the-variants.{Traction, Current}
+use Rattle.condition.specs.declared.slots.Slot.{Slot}
+use Rattle.telegram.specs.Telegrams.{blank, readOf, bytesOf}
+use Rattle.telegram.specs.declared.Reading.{Reading}
+use Rattle.telegram.specs.declared.Telegram.{Telegram}
 use Rattle.orders.specs.Orders.{listRefusal}
-use Rattle.orders.specs.declared.Place.{Place}
-use Rattle.desk.specs.Desks.{rest, freshDesk}
+use Rattle.places.specs.declared.Place.{Place}
+use Rattle.desk.specs.Desks.{rest, freshDesk, acceptOf, tableOf}
 use Rattle.desk.specs.Runs.{run}
 use Rattle.train_telegram.specs.States.{systemWith}
 use Rattle.train_codes.specs.declared.Brake.{Brake}
@@ -20,7 +28,7 @@ use Rattle.train_codes.specs.declared.Isolation.the-variants.{Isolated, NotIsol
 use Rattle.train_telegram.specs.declared.states.National.{National}
 use Rattle.train_codes.specs.declared.Traction.the-variants.{Supported}
 use Rattle.signals.specs.Signals.{signalsWith, freshSignals, updateOf}
-use Rattle.signals.specs.declared.Answer.the-variants.{Accepted}
+use Rattle.signals.specs.declared.Answer.the-variants as Answer′
 use Rattle.signals.specs.declared.Updated.{Updated}
 
 -- ---- lists of orders, all of type 1
@@ -74,6 +82,39 @@ to-255 = [] ∷ ((order 1 ++ orders 7 900) ∷ one-stays 13)
 unfoldable pub before-the-wrap : List (List ℕ)
 before-the-wrap = orders 15 900 ∷ wholly-new 12
 
+-- ---- one condition, on the wire and at the desk
+
+-- the four bytes of two words
+unfoldable pub words : ℕ → ℕ → List ℕ
+words first second = (first / 256) ∷ (first % 256) ∷ (second / 256) ∷ (second % 256) ∷ []
+
+-- the slot with number 1 that holds this
+abbrev pub filled : Body → Slot
+filled body = record { number = 1; body = body }
+
+-- the telegram of step 1, packet 3, with one slot in its first place
+abbrev pub carrying : Slot → Telegram
+carrying slot = record { packet = 3; step = 1; slots = slot ∷ emptySlot ∷ emptySlot ∷ emptySlot ∷ [] }
+
+-- and its bytes, by the type and the two words of the slot, which has number 1
+unfoldable pub wire : ℕ → ℕ → ℕ → List ℕ
+wire kind first second = 0x60 ∷ 1 ∷ 1 ∷ kind ∷ (words first second ++ replicate 18 0)
+
+-- a list with one order of this type and these words
+unfoldable pub ordering : ℕ → ℕ → ℕ → List ℕ
+ordering kind first second = 0 ∷ 0 ∷ 0 ∷ 1 ∷ kind ∷ 0 ∷ words first second
+
+-- what a fresh desk has in slot 0 after a list
+unfoldable pub heldFirst : List ℕ → Slot
+heldFirst list = getD (tableOf (acceptOf rest freshDesk list .desk)) 0 emptySlot
+
+-- reading is accepted with this in the first place, or refused
+abbrev pub reads : Body → Reading
+reads body = record { verdict = Accepted; telegram = carrying (filled body) }
+
+abbrev pub refuses : ℕ → Reading
+refuses number = record { verdict = Refused number; telegram = blank }
+
 -- ---- telegrams from the train
 
 -- the answer to a telegram from the train, and the record after it, of a fresh record
@@ -83,7 +124,7 @@ received telegram = updateOf freshSignals true telegram
 -- accepted, with these states
 unfoldable pub showing : Cab → Brake → List National → ℕ → Updated
 showing cab brake national systems =
-    record { answer = Accepted; signals = signalsWith (record { cab = cab; brake = brake; national = national; traction = Supported systems }) 0 }
+    record { answer = Answer′.Accepted; signals = signalsWith (record { cab = cab; brake = brake; national = national; traction = Supported systems }) 0 }
 
 abbrev pub isolated : National
 isolated = systemWith Isolated
@@ -93,9 +134,12 @@ notIsolated = systemWith NotIsolated
 
 -- ---- the table
 
--- a row: what the definitions give, and what the paper says; of numbers, or of a call that the record of signals answers
+-- a row: what the definitions give, and what the paper says; of numbers, of a telegram that is read, of a slot, or of a call that
+-- the record of signals answers
 pub data Row : Type 0 where
   numbers-are : List ℕ → List ℕ → Row
+  readings-are : Reading → Reading → Row
+  slots-are : Slot → Slot → Row
   signals-are : Updated → Updated → Row
 
 -- P5 after the wrap (A-05): number 1 ended in step 2, and in step 8,197 it is given
@@ -104,8 +148,35 @@ p5-wrap = numbers-are (numbers (orders 1 1000 ∷ (empty 8183 ++ before-the-wrap
 
 abbrev pub short-rows : List Row
 short-rows =
+    -- P1: voltage 1, country 33: second word 0211h, written, read and ordered
+    numbers-are (bytesOf (carrying (filled (Traction 0 33 1)))) (wire 4 0 0x0211)
+    ∷ readings-are (readOf (wire 4 0 0x0211)) (reads (Traction 0 33 1))
+    ∷ numbers-are (refusal (ordering 4 0 0x0211)) (0 ∷ [])
+    ∷ slots-are (heldFirst (ordering 4 0 0x0211)) (filled (Traction 0 33 1))
+    -- P1: voltage 6: refusal 6, of the telegram and of the list
+    ∷ readings-are (readOf (wire 4 0 0x0216)) (refuses 6)
+    ∷ numbers-are (refusal (ordering 4 0 0x0216)) (6 ∷ [])
+    -- P2: limit 1000 and 1023 accepted
+    ∷ readings-are (readOf (wire 5 0 1000)) (reads (Current 0 1000))
+    ∷ readings-are (readOf (wire 5 0 1023)) (reads (Current 0 1023))
+    ∷ numbers-are (refusal (ordering 5 0 1000)) (0 ∷ [])
+    ∷ numbers-are (refusal (ordering 5 0 1023)) (0 ∷ [])
+    -- P2: 1001 and 1022 refused
+    ∷ readings-are (readOf (wire 5 0 1001)) (refuses 6)
+    ∷ readings-are (readOf (wire 5 0 1022)) (refuses 6)
+    ∷ numbers-are (refusal (ordering 5 0 1001)) (6 ∷ [])
+    ∷ numbers-are (refusal (ordering 5 0 1022)) (6 ∷ [])
+    -- P2: with change 8000h all accepted and held as zero, by the reader and by the desk
+    ∷ readings-are (readOf (wire 5 0x8000 1000)) (reads (Current 0x8000 0))
+    ∷ readings-are (readOf (wire 5 0x8000 1023)) (reads (Current 0x8000 0))
+    ∷ readings-are (readOf (wire 5 0x8000 1001)) (reads (Current 0x8000 0))
+    ∷ readings-are (readOf (wire 5 0x8000 1022)) (reads (Current 0x8000 0))
+    ∷ slots-are (heldFirst (ordering 5 0x8000 1000)) (filled (Current 0x8000 0))
+    ∷ slots-are (heldFirst (ordering 5 0x8000 1023)) (filled (Current 0x8000 0))
+    ∷ slots-are (heldFirst (ordering 5 0x8000 1001)) (filled (Current 0x8000 0))
+    ∷ slots-are (heldFirst (ordering 5 0x8000 1022)) (filled (Current 0x8000 0))
     -- P3: the gap from 8,190 to 3 is 5; from 0 to 8,191 it is 8,191
-    numbers-are (gapOf 3 8190 ∷ []) (5 ∷ [])
+    ∷ numbers-are (gapOf 3 8190 ∷ []) (5 ∷ [])
     ∷ numbers-are (gapOf 8191 0 ∷ []) (8191 ∷ [])
     -- P4: twenty wholly new orders every step: step 12 gives 221 to 240, step 13 gives 241 to 255 and then 1 to 5
     ∷ numbers-are (numbers (wholly-new 12)) (from 20 221)

@@ -4,11 +4,12 @@ use mathlib.Core.List.{List, map}
 use mathlib.Core.Path.{_≡_, refl}
 use borrow.Author.Needs.{needs}
 use Rattle.wire.specs.Steps.{steps}
-use Rattle.orders.specs.Orders.{orderCount, listRefusal}
-use Rattle.orders.specs.declared.Place.{Place}
+use Rattle.order_list.specs.Lists.{orderCount}
+use Rattle.orders.specs.Orders.{listRefusal}
+use Rattle.places.specs.declared.Place.{Place}
 use Rattle.orders.proofs.Lists.{fair-length}
-use Rattle.numbers.specs.Numbers.{isResting}
-use Rattle.numbers.specs.declared.Ended.{Ended}
+use Rattle.resting.specs.Rests.{isResting}
+use Rattle.resting.specs.declared.Ended.{Ended}
 use Rattle.desk.specs.declared.Desk.{Desk}
 use Rattle.desk.specs.declared.arriving.Seats.{Seats}
 use Rattle.desk.specs.Desks.{rest, Made}

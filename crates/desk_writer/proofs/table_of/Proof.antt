@@ -9,8 +9,8 @@ use Rattle.kit.specs.Fill.{Filled}
 use Rattle.kit.proofs.Fill.{mapped-none, mapped-more, mapped-all}
 use Rattle.condition.specs.Slots.{emptySlot, slots}
 use Rattle.condition.specs.declared.slots.Slot.{Slot}
-use Rattle.orders.specs.Orders.{freePlace}
-use Rattle.orders.specs.declared.Place.{Place}
+use Rattle.places.specs.Places.{freePlace}
+use Rattle.places.specs.declared.Place.{Place}
 use Rattle.desk.specs.Desks.{tableOf}
 use Rattle.desk_writer.proofs.table_of.Statement.{statement}
 use Rattle.desk_writer.proofs.table_of.Tie as tie

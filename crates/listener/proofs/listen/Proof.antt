@@ -6,7 +6,8 @@ use borrow.Author.Tests.{not-true, not-false}
 use Rattle.telegram.specs.declared.Telegram.{Telegram}
 use Rattle.picture.specs.Pictures.{clashes}
 use Rattle.hand.specs.Sets.{begun, setFor, isHeld, joined, isWhole}
-use Rattle.listener.specs.Listeners.{carries, isLast, holding, takenAnswer, takenBy, heardOf}
+use Rattle.last_step.specs.LastSteps.{isLast}
+use Rattle.listener.specs.Listeners.{carries, holding, takenAnswer, takenBy, heardOf}
 use Rattle.listener.specs.declared.Answer.the-variants.{Refused, Held}
 use Rattle.listener.specs.declared.Heard.{Heard}
 use Rattle.listener.specs.declared.Listener.{Listener}

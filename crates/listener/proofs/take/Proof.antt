@@ -4,14 +4,16 @@ use mathlib.Core.Bool.{Bool}
 use mathlib.Core.List.{List}
 use mathlib.Core.Path.{_≡_, ap, _∙_}
 use borrow.Author.Needs.{needs}
-use Rattle.picture.specs.Pictures.{countOf, marksOf}
+use Rattle.picture.specs.Pictures.{countOf}
+use Rattle.marks.specs.Marks.{marksOf}
 use Rattle.listener.specs.declared.Answer.the-variants.{Taken}
 use Rattle.listener.specs.declared.Heard.{Heard}
-use Rattle.listener.specs.declared.Last.the-variants.{Step}
+use Rattle.last_step.specs.declared.Last.the-variants.{Step}
 use Rattle.listener.specs.declared.Listener.{Listener}
 use Rattle.hand.specs.declared.Hand.{Hand}
 use Rattle.hand.specs.Sets.{begun}
-use Rattle.listener.specs.Listeners.{carries, gapFrom, takenAnswer, takenBy}
+use Rattle.last_step.specs.LastSteps.{gapFrom}
+use Rattle.listener.specs.Listeners.{carries, takenAnswer, takenBy}
 use Rattle.listener.proofs.take.Statement.{statement}
 use Rattle.listener.proofs.take.Tie as tie
 

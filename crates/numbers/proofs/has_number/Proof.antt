@@ -8,8 +8,8 @@ use borrow.Author.Tests.{eq-eqb, ne-eqb}
 use lib.Dec.{eqb}
 use Rattle.kit.specs.Loops.{any}
 use Rattle.kit.proofs.Loops.{scan-go, scan-hit, scan-end}
-use Rattle.orders.specs.Orders.{placeAt}
-use Rattle.orders.specs.declared.Place.{Place}
+use Rattle.places.specs.Places.{placeAt}
+use Rattle.places.specs.declared.Place.{Place}
 use Rattle.numbers.specs.Numbers.{hasNumber}
 use Rattle.numbers.proofs.has_number.Statement.{statement}
 use Rattle.numbers.proofs.has_number.Tie as tie

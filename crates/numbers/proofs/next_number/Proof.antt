@@ -9,10 +9,12 @@ use borrow.Author.Tests.{eqb-true, eqb-false, not-true, not-false}
 use lib.Dec.{eqb}
 use lib.ListN.{length-map, length}
 use Rattle.kit.proofs.Cases.{on}
-use Rattle.orders.specs.declared.Place.{Place}
-use Rattle.numbers.specs.Numbers.{isPermitted, isResting, numberAfter, nextNumber}
-use Rattle.numbers.specs.declared.Ended.{Ended}
-use Rattle.numbers.proofs.Search.{covers-resting, others-few, number-first}
+use Rattle.places.specs.declared.Place.{Place}
+use Rattle.resting.specs.Rests.{isResting}
+use Rattle.numbers.specs.Numbers.{isPermitted, numberAfter, nextNumber}
+use Rattle.resting.specs.declared.Ended.{Ended}
+use Rattle.resting.proofs.Rested.{covers-resting}
+use Rattle.numbers.proofs.Search.{others-few, number-first}
 use Rattle.numbers.proofs.next_number.Statement.{statement}
 use Rattle.numbers.proofs.next_number.Tie as tie
 

@@ -4,7 +4,8 @@ use mathlib.Core.Bool.{cond, not}
 use borrow.Author.Needs.{needs}
 use borrow.Author.Tests.{eq-eqb, ne-eqb, lt-ltb, le-ltb, not-true, not-false}
 use Rattle.kit.specs.Ladder.{ladder}
-use Rattle.orders.specs.Orders.{isListed, isRetyped, orderRows}
+use Rattle.order_list.specs.Lists.{isListed}
+use Rattle.orders.specs.Orders.{isRetyped, orderRows}
 use Rattle.orders.proofs.order_refusal.Statement.{statement}
 use Rattle.orders.proofs.order_refusal.Tie as tie
 use Rattle.orders.proofs.order_refusal.Reads as reads
@@ -12,8 +13,8 @@ use Rattle.orders.proofs.order_refusal.Lts as lts
 use Rattle.kinds.proofs.is_kind.Reads as is-kind-reads
 use Rattle.kinds.proofs.second_allowed.Reads as second-allowed-reads
 use Rattle.orders.proofs.is_retyped.Reads as is-retyped-reads
-use Rattle.orders.proofs.listed_at.Reads as listed-at-reads
-use Rattle.orders.proofs.order_at.Reads as order-at-reads
+use Rattle.order_list.proofs.listed_at.Reads as listed-at-reads
+use Rattle.order_list.proofs.order_at.Reads as order-at-reads
 
 order-at-requires : tie.Need-order-at-requires
 order-at-requires c κs = search needs

@@ -10,7 +10,7 @@ use Rattle.kit.specs.Loops.{first}
 use Rattle.kit.proofs.Ladder.{ladder-each}
 use Rattle.kit.proofs.Loops.{first-go, first-hit, scan-end}
 use Rattle.orders.specs.Orders.{orderRows}
-use Rattle.orders.specs.declared.Place.{Place}
+use Rattle.places.specs.declared.Place.{Place}
 use Rattle.orders.proofs.Rows.{order-numbered}
 use Rattle.orders.proofs.orders_refusal.Statement.{statement}
 use Rattle.orders.proofs.orders_refusal.Tie as tie

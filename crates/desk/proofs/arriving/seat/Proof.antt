@@ -8,10 +8,11 @@ use native.Mathlib.Omega.{arith}
 use borrow.Author.Needs.{needs}
 use borrow.Author.Tests.{lt-ltb, le-ltb}
 use Rattle.condition.specs.declared.slots.Body.{Body}
-use Rattle.orders.specs.Orders.{placeOf, isLive}
+use Rattle.places.specs.Places.{placeOf, isLive}
 use Rattle.condition.specs.Slots.{slots}
-use Rattle.orders.specs.declared.Order.{Order}
-use Rattle.numbers.specs.Numbers.{isResting, nextNumber}
+use Rattle.order_list.specs.declared.Order.{Order}
+use Rattle.resting.specs.Rests.{isResting}
+use Rattle.numbers.specs.Numbers.{nextNumber}
 use Rattle.desk.specs.Desks.{rest}
 use Rattle.desk.specs.Steps.{bodyIn, seated}
 use Rattle.desk.specs.declared.arriving.Seats.{Seats}

@@ -5,9 +5,9 @@ use mathlib.Core.List.{List}
 use mathlib.Core.Path.{_≡_, sym, ap, _∙_}
 use borrow.Author.Needs.{needs}
 use Rattle.kit.proofs.Loops.{fold-none, fold-turn}
-use Rattle.orders.specs.Orders.{orderAt, orderCount}
-use Rattle.orders.specs.declared.Order.{Order}
-use Rattle.numbers.specs.Numbers.{isResting}
+use Rattle.order_list.specs.Lists.{orderAt, orderCount}
+use Rattle.order_list.specs.declared.Order.{Order}
+use Rattle.resting.specs.Rests.{isResting}
 use Rattle.desk.specs.Desks.{rest}
 use Rattle.desk.specs.Steps.{seated, seatedAll}
 use Rattle.desk.specs.Rooms.{Room, RoomForAll}

@@ -6,9 +6,9 @@ use lib.ListN.{length}
 use native.Mathlib.Omega.{arith}
 use borrow.Author.Needs.{needs}
 use Rattle.condition.specs.Slots.{slots}
-use Rattle.orders.specs.declared.Place.{Place}
-use Rattle.numbers.specs.Numbers.{endedAt}
-use Rattle.numbers.specs.declared.Ended.{Ended}
+use Rattle.places.specs.declared.Place.{Place}
+use Rattle.resting.specs.Rests.{endedAt}
+use Rattle.resting.specs.declared.Ended.{Ended}
 use Rattle.desk.specs.Steps.{endedNumbers}
 use Rattle.desk.proofs.Endings.{ended-now, ended-before}
 use Rattle.desk.proofs.leaving.ended_at.Statement.{statement}

@@ -7,7 +7,7 @@ use borrow.Author.Needs.{needs}
 use Rattle.kit.specs.Fill.{Filled}
 use Rattle.kit.proofs.Fill.{filled-none, filled-more, filled-all}
 use Rattle.condition.specs.Slots.{slots}
-use Rattle.numbers.specs.Numbers.{noneEnded}
+use Rattle.resting.specs.Rests.{noneEnded}
 use Rattle.desk.specs.Steps.{endedNumbers}
 use Rattle.desk.proofs.Endings.{ended-long}
 use Rattle.desk.proofs.leaving.ended_numbers.Statement.{statement}

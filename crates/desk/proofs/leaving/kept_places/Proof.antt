@@ -7,7 +7,7 @@ use native.Mathlib.Omega.{arith}
 use borrow.Author.Needs.{needs}
 use Rattle.kit.specs.Fill.{Filled}
 use Rattle.kit.proofs.Fill.{mapped-none, mapped-more, mapped-all}
-use Rattle.orders.specs.Orders.{freePlace}
+use Rattle.places.specs.Places.{freePlace}
 use Rattle.condition.specs.Slots.{slots}
 use Rattle.desk.specs.Steps.{keptPlace}
 use Rattle.desk.proofs.leaving.kept_places.Statement.{statement}

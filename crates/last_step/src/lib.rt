@@ -1,0 +1,29 @@
+// The step last taken: whether a telegram is of that step, and the gap from it to another.
+ghost use mathlib.Core.Path.{_≡_};
+ghost use Rattle.last_step.specs.LastSteps.{isLast, gapFrom};
+
+// The step last taken. That there is none yet is this enum's word, and not that the step number is 0.
+pub enum Last {
+    Never,
+    Step(u16),
+}
+
+// Whether a step number is that of the step last taken.
+pub fn is_last(last: Last, step: u16) -> bool
+    ensures { λ r. ⌜ r ≡ isLast last step ⌝ }
+{
+    match last {
+        Last::Never => false,
+        Last::Step(taken) => taken == step,
+    }
+}
+
+// The gap from the step last taken, 0 where there is none.
+pub fn gap_from(last: Last, step: u16) -> u16
+    ensures { λ r. ⌜ r ≡ gapFrom last step ⌝ }
+{
+    match last {
+        Last::Never => 0,
+        Last::Step(taken) => wire::gap(step, taken),
+    }
+}

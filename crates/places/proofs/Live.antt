@@ -1,0 +1,25 @@
+-- What the search of an order's place answers.
+use Prim.Native.Nat.{ℕ, _<_}
+use mathlib.Core.Path.{_≡_}
+use mathlib.Core.Bool.{true, false}
+use mathlib.Core.List.{List}
+use lib.Dec.{eqb}
+use borrow.Author.Tests.{eqb-true, eqb-false, eq-eqb}
+use Rattle.kit.proofs.Cases.{given}
+use Rattle.kit.proofs.Loops.{found-there, found-none, found-when}
+use Rattle.condition.specs.Slots.{slots}
+use Rattle.places.specs.Places.{placeAt, placeOf, isLive}
+use Rattle.places.specs.declared.Place.{Place}
+
+module _ (places : List Place) (o : ℕ) where
+  pub live-there : isLive places o ≡ true → (placeOf places o < slots) × (placeAt places (placeOf places o) .order ≡ o)
+  unfolding placeOf
+  live-there h = given (found-there (λ i. eqb (placeAt places i .order) o) slots h) (λ (p, e). (p, eqb-true _ o e))
+
+  pub live-none : (i : ℕ) → isLive places o ≡ false → i < slots → placeAt places i .order ≡ o → ⊥
+  unfolding placeOf
+  live-none i h p = eqb-false _ o (found-none (λ k. eqb (placeAt places k .order) o) slots i h p)
+
+  pub live-when : (i : ℕ) → i < slots → placeAt places i .order ≡ o → isLive places o ≡ true
+  unfolding placeOf
+  live-when i p e = found-when (λ k. eqb (placeAt places k .order) o) slots i p (eq-eqb _ o e)

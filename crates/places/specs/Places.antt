@@ -1,0 +1,29 @@
+-- The places of a desk: document 01, "The list and the step", its points on slots.
+use Prim.Native.Nat.{ℕ}
+use mathlib.Core.Bool.{Bool}
+use mathlib.Core.List.{List}
+use lib.Dec.{eqb, ltb}
+use lib.ListN.{getD}
+use Rattle.kit.specs.Loops.{find}
+use Rattle.condition.specs.Slots.{slots, emptySlot}
+use Rattle.places.specs.declared.Place.{Place}
+
+-- D-04: a place that no order has
+abbrev pub freePlace : Place
+freePlace = record { order = 0; slot = emptySlot }
+
+-- W-01: place i of the twenty
+abbrev pub placeAt : List Place → ℕ → Place
+placeAt places i = getD places i freePlace
+
+-- A-01: the lowest place that an order has, or 20 where it has none
+unfoldable pub placeOf : List Place → ℕ → ℕ
+placeOf places order = find (λ i. eqb (placeAt places i .order) order) slots
+
+-- D-08: the lowest free slot, or 20 where none is free
+abbrev pub lowestFree : List Place → ℕ
+lowestFree places = placeOf places 0
+
+-- A-01: an order is live: it has a place
+abbrev pub isLive : List Place → ℕ → Bool
+isLive places order = ltb (placeOf places order) slots
