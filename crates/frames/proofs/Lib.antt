@@ -1,1 +1,2 @@
+pub mod Pouring
 pub mod Splitting
