@@ -22,11 +22,11 @@ pub size-part : (bare : ℕ) (input : List ℕ) → length input < sizeOf bare i
 unfolding wholeSize isWhole
 size-part bare input h = rw (lt-leb (sizeOf bare input) (length input) h) refl
 
-size-two : (bare : ℕ) (input : List ℕ) → 2 ≤ sizeOf bare input
+pub size-two : (bare : ℕ) (input : List ℕ) → 2 ≤ sizeOf bare input
 unfolding sizeOf
 size-two bare input = omega arith
 
-whole-fits : (bare : ℕ) (input : List ℕ) → isWhole bare input ≡ true → sizeOf bare input ≤ length input
+pub whole-fits : (bare : ℕ) (input : List ℕ) → isWhole bare input ≡ true → sizeOf bare input ≤ length input
 unfolding isWhole
 whole-fits bare input e = leb-true (sizeOf bare input) (length input) e
 
@@ -34,12 +34,12 @@ part-breaks : (bare : ℕ) (input : List ℕ) → isWhole bare input ≡ false �
 unfolding isWhole
 part-breaks bare input e = leb-false (sizeOf bare input) (length input) e
 
-behind-shorter : (bare : ℕ) (input : List ℕ) (most : ℕ) → isWhole bare input ≡ true → length input ≤ suc most → length (behind bare input) ≤ most
+pub behind-shorter : (bare : ℕ) (input : List ℕ) (most : ℕ) → isWhole bare input ≡ true → length input ≤ suc most → length (behind bare input) ≤ most
 unfolding behind
 behind-shorter bare input most e h =
     omega (arith, size-two bare input, whole-fits bare input e, length-drop (sizeOf bare input) input)
 
-none-left : (bare : ℕ) (input : List ℕ) → length input ≤ 0 → isWhole bare input ≡ false
+pub none-left : (bare : ℕ) (input : List ℕ) → length input ≤ 0 → isWhole bare input ≡ false
 unfolding isWhole
 none-left bare input h = lt-leb (sizeOf bare input) (length input) (omega (arith, size-two bare input))
 

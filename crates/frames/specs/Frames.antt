@@ -2,10 +2,10 @@
 -- Where no length is to be bare, `bare` is a number that two bytes do not have.
 use Prim.Native.Nat.{ℕ, zero, suc, _+_}
 use mathlib.Core.Bool.{Bool, cond}
-use mathlib.Core.List.{List, [], _∷_}
+use mathlib.Core.List.{List, [], _∷_, _++_}
 use lib.Dec.{eqb, ltb, leb}
 use lib.ListN.{length, take, drop}
-use Rattle.kit.specs.Bytes.{wordAt}
+use Rattle.kit.specs.Bytes.{wordAt, wordBytes}
 
 -- a call: its length as it stands there, and its bytes
 abbrev pub Call : Type 0
@@ -54,3 +54,8 @@ leftOf bare input = left bare (length input) input
 -- the input ends inside a call, inside its length or its bytes
 unfoldable pub isShort : ℕ → List ℕ → Bool
 isShort bare input = ltb 0 (length (leftOf bare input))
+
+-- the bytes of calls that stand one after another
+unfoldable pub written : List Call → List ℕ
+written [] = []
+written ((word, bytes) ∷ later) = wordBytes word ++ (bytes ++ written later)
