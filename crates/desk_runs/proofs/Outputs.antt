@@ -1,0 +1,47 @@
+-- The tables and lines of an input, by the size of its first list: those of one list more, the line that says that the input is short, or none.
+use Prim.Native.Nat.{ℕ, _+_, _-_, _≤_}
+use mathlib.Core.Path.{_≡_, refl}
+use mathlib.Core.List.{List, [], _++_, append-assoc}
+use lib.ListN.{length, take, drop}
+use Rattle.frames.specs.Frames.{wholeSize}
+use Rattle.frames.proofs.Splitting.{calls-more, short-more, calls-none, short-none, calls-end, short-end}
+use Rattle.desk.specs.Desks.{rest, acceptOf}
+use Rattle.desk.specs.declared.Answer.{Answer}
+use Rattle.desk.specs.declared.Desk.{Desk}
+use Rattle.desk_output.specs.Outputs.{shortLine}
+use Rattle.desk_runs.specs.Runs.{noBare, listsOf, tableFor, lineFor, tablesFrom, linesFrom, tailOf, tablesWith, linesWith}
+
+module _ (desk : Desk) (before : ℕ) (input : List ℕ) where
+  module _ (size : ℕ) (sized : size ≡ wholeSize noBare input) where
+    -- what the desk answers to the first list
+    abbrev pub first : Answer
+    first = acceptOf rest desk (take (size - 2) (drop 2 input))
+
+    module _ (some : 1 ≤ size) where
+      pub tables-more : tablesWith desk input ≡ tableFor (first .verdict) (first .desk) ++ tablesWith (first .desk) (drop size input)
+      unfolding tablesWith tablesFrom listsOf
+      tables-more = rw (calls-more noBare input size sized some) refl
+
+      pub lines-more : linesWith desk before input ≡ lineFor (first .verdict) (before + 1) ++ linesWith (first .desk) (before + 1) (drop size input)
+      unfolding linesWith linesFrom listsOf tailOf
+      lines-more =
+          rw (calls-more noBare input size sized some, short-more noBare input size sized some)
+          (append-assoc (lineFor (first .verdict) (before + 1)) (linesFrom (first .desk) (before + 1) (listsOf (drop size input))) (tailOf (drop size input)))
+
+    module _ (none : size ≡ 0) where
+      pub tables-none : tablesWith desk input ≡ []
+      unfolding tablesWith tablesFrom listsOf
+      tables-none = rw (calls-none noBare input size sized none) refl
+
+      pub lines-short : 1 ≤ length input → linesWith desk before input ≡ shortLine
+      unfolding linesWith linesFrom listsOf tailOf
+      lines-short some = rw (calls-none noBare input size sized none, short-none noBare input size sized none some) refl
+
+  module _ (end : length input ≡ 0) where
+    pub tables-end : tablesWith desk input ≡ []
+    unfolding tablesWith tablesFrom listsOf
+    tables-end = rw (calls-end noBare input end) refl
+
+    pub lines-end : linesWith desk before input ≡ []
+    unfolding linesWith linesFrom listsOf tailOf
+    lines-end = rw (calls-end noBare input end, short-end noBare input end) refl

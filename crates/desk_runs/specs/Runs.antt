@@ -1,0 +1,64 @@
+-- What comes of a whole input of lists: everything that the program run_desk writes.
+use Prim.Native.Nat.{ℕ, _+_}
+use mathlib.Core.Bool.{cond}
+use mathlib.Core.List.{List, [], _∷_, _++_, map}
+use Rattle.wire.specs.declared.verdicts.Verdict.{Verdict}
+use Rattle.wire.specs.declared.verdicts.Verdict.the-variants.{Accepted, Refused}
+use Rattle.frames.specs.Frames.{Call, callsOf, isShort}
+use Rattle.desk.specs.Desks.{rest, freshDesk, acceptOf}
+use Rattle.desk.specs.declared.Desk.{Desk}
+use Rattle.desk_output.specs.Outputs.{tableBytes, refusedLine, shortLine}
+
+-- every length has its bytes: two bytes do not say this one
+abbrev pub noBare : ℕ
+noBare = 0x10000
+
+-- the lists that the input has whole
+unfoldable pub listsOf : List ℕ → List (List ℕ)
+listsOf input = map (λ (call : Call). call .1) (callsOf noBare input)
+
+-- ---- one list
+
+-- D-02, W-03: the table after the step; a refused list gives none
+abbrev pub tableFor : Verdict → Desk → List ℕ
+tableFor Accepted desk = tableBytes desk
+tableFor (Refused number) desk = []
+
+-- D-18: the line for a refused list; `list` is which one it is
+abbrev pub lineFor : Verdict → ℕ → List ℕ
+lineFor Accepted list = []
+lineFor (Refused number) list = refusedLine number list
+
+-- ---- many lists, each handed to the desk as the one before it left it
+
+unfoldable pub tablesFrom : Desk → List (List ℕ) → List ℕ
+tablesFrom desk [] = []
+tablesFrom desk (list ∷ later) =
+    let answer = acceptOf rest desk list in
+    tableFor (answer .verdict) (answer .desk) ++ tablesFrom (answer .desk) later
+
+-- `before` lists came before these, accepted and refused ones
+unfoldable pub linesFrom : Desk → ℕ → List (List ℕ) → List ℕ
+linesFrom desk before [] = []
+linesFrom desk before (list ∷ later) =
+    let answer = acceptOf rest desk list in
+    lineFor (answer .verdict) (before + 1) ++ linesFrom (answer .desk) (before + 1) later
+
+-- ---- a whole input
+
+-- the line for an input that ends inside a list
+unfoldable pub tailOf : List ℕ → List ℕ
+tailOf input = cond (isShort noBare input) shortLine []
+
+unfoldable pub tablesWith : Desk → List ℕ → List ℕ
+tablesWith desk input = tablesFrom desk (listsOf input)
+
+unfoldable pub linesWith : Desk → ℕ → List ℕ → List ℕ
+linesWith desk before input = linesFrom desk before (listsOf input) ++ tailOf input
+
+-- D-04: from a fresh desk, the lists counted from 1
+unfoldable pub tablesOf : List ℕ → List ℕ
+tablesOf input = tablesWith freshDesk input
+
+unfoldable pub linesOf : List ℕ → List ℕ
+linesOf input = linesWith freshDesk 0 input

@@ -1,0 +1,90 @@
+// What the program run_desk writes, computed in memory: lists in a slice, each after its length in two bytes, to tables and lines in two
+// lent buffers.
+use desk::Desk;
+use wire::Verdict;
+ghost use Prim.Native.Nat.{_≤_};
+ghost use mathlib.Core.Path.{_≡_};
+ghost use lib.ListN.{length};
+ghost use Rattle.kit.specs.Put.{Poured};
+ghost use Rattle.desk.specs.Desks.{rest, acceptOf, Made};
+ghost use Rattle.desk_runs.specs.Runs.{tableFor, lineFor, tablesOf, linesOf};
+
+// More than the two bytes of a length can say: every length has its bytes.
+const NO_BARE: u32 = 0x10000;
+
+// How many bytes stand in each of the two buffers.
+pub struct Ran {
+    pub tables: usize,
+    pub lines: usize,
+}
+
+// The desk after a list.
+struct Taken {
+    desk: Desk,
+    ran: Ran,
+}
+
+// One list: the table after it, or the line that it is refused.
+fn take(desk: Desk, list: &[u8], lists: u64, tables: &mut [u8], lines: &mut [u8], ran: Ran) -> Taken
+    requires { ⌜ Made desk × (ran .tables ≤ length (now tables)) × (ran .lines ≤ length (now lines)) ⌝ }
+    ensures { λ r. ⌜ (r .desk ≡ acceptOf rest desk (now (list .entry)) .desk)
+        × Poured (now (tables .entry)) (ran .tables) (tableFor (acceptOf rest desk (now (list .entry)) .verdict) (acceptOf rest desk (now (list .entry)) .desk)) (now (tables .exit)) (r .ran .tables)
+        × Poured (now (lines .entry)) (ran .lines) (lineFor (acceptOf rest desk (now (list .entry)) .verdict) lists) (now (lines .exit)) (r .ran .lines) ⌝ }
+{
+    let answer = desk.accept(list);
+    let verdict = answer.verdict;
+    let next = answer.desk;
+    match verdict {
+        Verdict::Accepted => {
+            let past = desk_output::put_table(next, tables, ran.tables);
+            Taken {
+                desk: next,
+                ran: Ran {
+                    tables: past,
+                    lines: ran.lines,
+                },
+            }
+        }
+        Verdict::Refused(number) => {
+            let past = desk_output::put_refused(number, lists, lines, ran.lines);
+            Taken {
+                desk: next,
+                ran: Ran {
+                    tables: ran.tables,
+                    lines: past,
+                },
+            }
+        }
+    }
+}
+
+// Hands all lists to a fresh desk: the table after each that is accepted, and a line for each that is refused and where the input ends
+// inside a list. What has no room before a buffer's end is dropped.
+pub fn run(input: &[u8], tables: &mut [u8], lines: &mut [u8]) -> Ran
+    ensures { λ r. ⌜ Poured (now (tables .entry)) 0 (tablesOf (now (input .entry))) (now (tables .exit)) (r .tables)
+        × Poured (now (lines .entry)) 0 (linesOf (now (input .entry))) (now (lines .exit)) (r .lines) ⌝ }
+{
+    let mut desk = Desk::fresh();
+    let mut ran = Ran {
+        tables: 0,
+        lines: 0,
+    };
+    let mut lists: u64 = 0;
+    let mut rest = input;
+    while 0 < rest.len() {
+        let size = frames::call_size(rest, NO_BARE);
+        if size == 0 {
+            let past = desk_output::put_short(lines, ran.lines);
+            return Ran {
+                tables: ran.tables,
+                lines: past,
+            };
+        }
+        lists += 1;
+        let taken = take(desk, &rest[frames::LENGTH..size], lists, tables, lines, ran);
+        desk = taken.desk;
+        ran = taken.ran;
+        rest = &rest[size..];
+    }
+    ran
+}

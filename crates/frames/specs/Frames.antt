@@ -1,0 +1,61 @@
+-- Calls one after another, each a length in two bytes, high first, and so many bytes. One length may be bare: nothing follows it.
+-- Where no length is to be bare, `bare` is a number that two bytes do not have.
+use Prim.Native.Nat.{ℕ, zero, suc, _+_}
+use mathlib.Core.Bool.{Bool, cond}
+use mathlib.Core.List.{List, [], _∷_, _++_}
+use lib.Dec.{eqb, ltb, leb}
+use lib.ListN.{length, take, drop}
+use Rattle.kit.specs.Bytes.{wordAt, wordBytes}
+
+-- a call: its length as it stands there, and its bytes
+abbrev pub Call : Type 0
+Call = ℕ × List ℕ
+
+-- how many bytes follow a length
+unfoldable pub follows : ℕ → ℕ → ℕ
+follows bare word = cond (eqb word bare) 0 word
+
+-- how many bytes the first call takes, its length among them
+unfoldable pub sizeOf : ℕ → List ℕ → ℕ
+sizeOf bare input = 2 + follows bare (wordAt input 0)
+
+-- the input has the first call whole
+unfoldable pub isWhole : ℕ → List ℕ → Bool
+isWhole bare input = leb (sizeOf bare input) (length input)
+
+-- how many bytes the first call takes, and 0 where the input does not have it whole
+unfoldable pub wholeSize : ℕ → List ℕ → ℕ
+wholeSize bare input = cond (isWhole bare input) (sizeOf bare input) 0
+
+-- the first call, and what stands behind it
+unfoldable pub firstOf : ℕ → List ℕ → Call
+firstOf bare input = (wordAt input 0, take (follows bare (wordAt input 0)) (drop 2 input))
+
+unfoldable pub behind : ℕ → List ℕ → List ℕ
+behind bare input = drop (sizeOf bare input) input
+
+-- the calls that the input has whole, `most` of them at the most
+unfoldable pub calls : ℕ → ℕ → List ℕ → List Call
+calls bare zero input = []
+calls bare (suc most) input = cond (isWhole bare input) (firstOf bare input ∷ calls bare most (behind bare input)) []
+
+-- all of them: there are no more than bytes
+unfoldable pub callsOf : ℕ → List ℕ → List Call
+callsOf bare input = calls bare (length input) input
+
+-- what is left behind so many whole calls, and behind all of them
+unfoldable pub left : ℕ → ℕ → List ℕ → List ℕ
+left bare zero input = input
+left bare (suc most) input = cond (isWhole bare input) (left bare most (behind bare input)) input
+
+unfoldable pub leftOf : ℕ → List ℕ → List ℕ
+leftOf bare input = left bare (length input) input
+
+-- the input ends inside a call, inside its length or its bytes
+unfoldable pub isShort : ℕ → List ℕ → Bool
+isShort bare input = ltb 0 (length (leftOf bare input))
+
+-- the bytes of calls that stand one after another
+unfoldable pub written : List Call → List ℕ
+written [] = []
+written ((word, bytes) ∷ later) = wordBytes word ++ (bytes ++ written later)
