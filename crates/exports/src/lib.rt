@@ -1,0 +1,43 @@
+// What other languages call. Each function takes bytes and a lent buffer, puts there what the program of the same purpose writes, and
+// answers how many bytes it put. What has no room before the buffer's end is dropped, so that an answer of the buffer's whole length
+// tells that it may be too short. include/bravolith.h says the same in C.
+ghost use Rattle.kit.specs.Put.{Poured};
+ghost use Rattle.listing.specs.Listings.{listing};
+ghost use Rattle.desk_runs.specs.Runs.{tablesOf, linesOf as refusedLines};
+ghost use Rattle.signal_runs.specs.Runs.{linesOf as signalLines};
+
+// The listing of a recording of telegrams, as list_conditions writes it.
+#[no_mangle]
+pub extern "C" fn bravolith_list(recording: &[u8], out: &mut [u8]) -> usize
+    ensures { λ r. ⌜ Poured (now (out .entry)) 0 (listing (now (recording .entry))) (now (out .exit)) r ⌝ }
+{
+    listing::list(recording, out)
+}
+
+// The tables of a desk that is handed the lists, as run_desk writes them to standard output.
+#[no_mangle]
+pub extern "C" fn bravolith_run(lists: &[u8], out: &mut [u8]) -> usize
+    ensures { λ r. ⌜ Poured (now (out .entry)) 0 (tablesOf (now (lists .entry))) (now (out .exit)) r ⌝ }
+{
+    let mut lines = [0u8; 1];
+    let ran = desk_runs::run(lists, out, &mut lines);
+    ran.tables
+}
+
+// The lines on refused lists, as run_desk writes them to standard error.
+#[no_mangle]
+pub extern "C" fn bravolith_run_lines(lists: &[u8], out: &mut [u8]) -> usize
+    ensures { λ r. ⌜ Poured (now (out .entry)) 0 (refusedLines (now (lists .entry))) (now (out .exit)) r ⌝ }
+{
+    let mut tables = [0u8; 1];
+    let ran = desk_runs::run(lists, &mut tables, out);
+    ran.lines
+}
+
+// The lines of calls with train telegrams, as read_signals writes them.
+#[no_mangle]
+pub extern "C" fn bravolith_signals(calls: &[u8], out: &mut [u8]) -> usize
+    ensures { λ r. ⌜ Poured (now (out .entry)) 0 (signalLines (now (calls .entry))) (now (out .exit)) r ⌝ }
+{
+    signal_runs::read(calls, out)
+}
