@@ -12,13 +12,13 @@ ghost use Rattle.desk_runs.specs.Runs.{tableFor, lineFor, tablesOf, line
 // More than the two bytes of a length can say: every length has its bytes.
 const NO_BARE: u32 = 0x10000;
 
-// How many bytes stand in each of the two buffers.
+// How many bytes were put into each of the two buffers.
 pub struct Ran {
     pub tables: usize,
     pub lines: usize,
 }
 
-// The desk after a list.
+// The desk after a list, and how far the buffers are filled.
 struct Taken {
     desk: Desk,
     ran: Ran,
@@ -36,22 +36,22 @@ fn take(desk: Desk, list: &[u8], lists: u64, tables: &mut [u8], lines: &mut [u8]
     let next = answer.desk;
     match verdict {
         Verdict::Accepted => {
-            let past = desk_output::put_table(next, tables, ran.tables);
+            let end = desk_output::put_table(next, tables, ran.tables);
             Taken {
                 desk: next,
                 ran: Ran {
-                    tables: past,
+                    tables: end,
                     lines: ran.lines,
                 },
             }
         }
         Verdict::Refused(number) => {
-            let past = desk_output::put_refused(number, lists, lines, ran.lines);
+            let end = desk_output::put_refused(number, lists, lines, ran.lines);
             Taken {
                 desk: next,
                 ran: Ran {
                     tables: ran.tables,
-                    lines: past,
+                    lines: end,
                 },
             }
         }

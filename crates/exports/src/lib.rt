@@ -1,8 +1,10 @@
 // What other languages call. Each function takes bytes and a lent buffer, puts there what the program of the same purpose writes, and
 // answers how many bytes it put. What has no room before the buffer's end is dropped, so that an answer of the buffer's whole length
 // tells that it may be too short. include/bravolith.h says the same in C.
+ghost use mathlib.Core.Path.{_≡_};
 ghost use Rattle.kit.specs.Put.{Poured};
 ghost use Rattle.listing.specs.Listings.{listing};
+ghost use Rattle.listing_reader.specs.Fixed.{wordOf, codeOf};
 ghost use Rattle.desk_runs.specs.Runs.{tablesOf, linesOf as refusedLines};
 ghost use Rattle.signal_runs.specs.Runs.{linesOf as signalLines};
 
@@ -40,4 +42,12 @@ pub extern "C" fn bravolith_signals(calls: &[u8], out: &mut [u8]) -> usize
     ensures { λ r. ⌜ Poured (now (out .entry)) 0 (signalLines (now (calls .entry))) (now (out .exit)) r ⌝ }
 {
     signal_runs::read(calls, out)
+}
+
+// Which of a listing's fixed words a text is: 1 the header with its line feed, 2 `new`, 3 `carried`, 4 `refused` with its blank, 0 none.
+#[no_mangle]
+pub extern "C" fn bravolith_word(word: &[u8]) -> u8
+    ensures { λ r. ⌜ r ≡ codeOf (wordOf (now (word .entry))) ⌝ }
+{
+    listing_reader::code_of(listing_reader::word_of(word))
 }

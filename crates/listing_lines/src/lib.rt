@@ -9,11 +9,11 @@ const BLANK: u8 = b' ';
 const LINE_FEED: u8 = 10;
 
 // The first line. The 1 names this form of listing.
-const HEADER: [u8; 13] = *b"conditions 1\n";
+pub const HEADER: [u8; 13] = *b"conditions 1\n";
 
 const TABLE: [u8; 6] = *b"table ";
 
-const REFUSED: [u8; 8] = *b"refused ";
+pub const REFUSED: [u8; 8] = *b"refused ";
 
 const END: [u8; 4] = *b"end ";
 

@@ -9,9 +9,9 @@ const MINUS: u8 = b'-';
 
 const STROKE: u8 = b'/';
 
-const NEW: [u8; 3] = *b"new";
+pub const NEW: [u8; 3] = *b"new";
 
-const CARRIED: [u8; 7] = *b"carried";
+pub const CARRIED: [u8; 7] = *b"carried";
 
 // A number in decimal, and one byte after it.
 pub fn put_number(number: u64, after: u8, line: &mut [u8], at: usize) -> usize

@@ -1,0 +1,39 @@
+-- The fixed byte strings of a listing, compared: which of them a text is (F-08, A-37).
+use Prim.Native.Nat.{ℕ}
+use mathlib.Core.Bool.{Bool, not, _&&_}
+use mathlib.Core.List.{List, [], _∷_}
+use lib.Dec.{eqb}
+use lib.ListN.{length, getD}
+use Rattle.kit.specs.Ladder.{ladder}
+use Rattle.kit.specs.Loops.{any}
+use Rattle.text.specs.Words.{refusedWord}
+use Rattle.listing_words.specs.Words.{newWord, carriedWord}
+use Rattle.listing_lines.specs.Lines.{headerLine}
+use Rattle.listing_reader.specs.declared.Word.{Word}
+use Rattle.listing_reader.specs.declared.Word.the-variants.{Header, New, Carried, Refused, Other}
+
+-- byte i is not the same in both
+abbrev pub differsAt : List ℕ → List ℕ → ℕ → Bool
+differsAt text words i = not (eqb (getD text i 0) (getD words i 0))
+
+-- as many bytes, and each the same
+unfoldable pub isSame : List ℕ → List ℕ → Bool
+isSame text words = eqb (length text) (length words) && not (any (differsAt text words) 0 (length words))
+
+-- F-08: the header, `new`, `carried`, `refused` with its blank, or none of them
+unfoldable pub wordOf : List ℕ → Word
+wordOf text =
+    ladder Other
+    ((isSame text headerLine, Header)
+    ∷ (isSame text newWord, New)
+    ∷ (isSame text carriedWord, Carried)
+    ∷ (isSame text refusedWord, Refused)
+    ∷ [])
+
+-- C-12: the number that other languages know a word by
+abbrev pub codeOf : Word → ℕ
+codeOf Other = 0
+codeOf Header = 1
+codeOf New = 2
+codeOf Carried = 3
+codeOf Refused = 4
