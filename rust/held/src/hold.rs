@@ -1,0 +1,156 @@
+//! Holds one function of the proved library against the plain one, on one
+//! input, byte for byte.
+
+use crate::proved;
+use crate::random::Random;
+use plain::telegram::TELEGRAM_BYTES;
+
+/// A function of the proved library with its plain counterpart.
+#[derive(Clone, Copy)]
+pub struct Function {
+    pub name: &'static str,
+    pub proved: fn(&[u8], &mut [u8]) -> usize,
+    pub plain: fn(&[u8], &mut Vec<u8>),
+    /// Whether the output is lines; otherwise it is telegrams.
+    pub text: bool,
+}
+
+pub const LIST: Function = Function {
+    name: "bravolith_list",
+    proved: proved::list,
+    plain: plain::listing::list,
+    text: true,
+};
+
+pub const RUN: Function = Function {
+    name: "bravolith_run",
+    proved: proved::run,
+    plain: plain::run::run,
+    text: false,
+};
+
+pub const RUN_LINES: Function = Function {
+    name: "bravolith_run_lines",
+    proved: proved::run_lines,
+    plain: plain::run::run_lines,
+    text: true,
+};
+
+pub const SIGNALS: Function = Function {
+    name: "bravolith_signals",
+    proved: proved::signals,
+    plain: plain::calls::signals,
+    text: true,
+};
+
+/// Bytes past the lent ones, to see that none of them is touched.
+const GUARD: usize = 64;
+
+/// The output expected and the buffer lent, kept from case to case so that
+/// they need not be made anew.
+#[derive(Default)]
+pub struct Holder {
+    pub expected: Vec<u8>,
+    buffer: Vec<u8>,
+}
+
+impl Holder {
+    /// Compares both on this input. The plain output stays in `expected`.
+    /// The answer is how many calls of the proved function agreed, or words
+    /// on the first difference.
+    pub fn hold(
+        &mut self,
+        function: &Function,
+        input: &[u8],
+        random: &mut Random,
+    ) -> Result<u64, String> {
+        self.expected.clear();
+        (function.plain)(input, &mut self.expected);
+        let whole = self.expected.len();
+        // More room than the text needs: a longer text would show.
+        self.call(function, input, whole + random.between(1, 300), random)?;
+        if !random.once_in(4) {
+            return Ok(1);
+        }
+        let less = random.below(whole + 1);
+        let near = whole.saturating_sub(random.between(1, 30));
+        let lent = random.pick(&[0, 1.min(whole), less, less, near, whole]);
+        self.call(function, input, lent, random)?;
+        Ok(2)
+    }
+
+    fn call(
+        &mut self,
+        function: &Function,
+        input: &[u8],
+        lent: usize,
+        random: &mut Random,
+    ) -> Result<(), String> {
+        let filler = random.byte();
+        self.buffer.clear();
+        self.buffer.resize(lent + GUARD, filler);
+        let answer = (function.proved)(input, &mut self.buffer[..lent]);
+        let put = self.expected.len().min(lent);
+        let expected = &self.expected[..put];
+        let got = &self.buffer[..answer.min(lent)];
+        if answer != put || got != expected {
+            let words = difference(function, expected, got);
+            return Err(format!(
+                "lent {lent} bytes, answer {answer}, expected {put}\n{words}"
+            ));
+        }
+        let past = &self.buffer[put..];
+        match past.iter().position(|&byte| byte != filler) {
+            Some(place) => Err(format!(
+                "lent {lent} bytes, answer {answer}: byte {} past the answer was {filler:02x} and is {:02x}",
+                put + place,
+                past[place]
+            )),
+            None => Ok(()),
+        }
+    }
+}
+
+fn difference(function: &Function, expected: &[u8], got: &[u8]) -> String {
+    let same = expected.iter().zip(got).take_while(|(a, b)| a == b).count();
+    let (what, plain, proved) = if function.text {
+        let line = expected[..same]
+            .iter()
+            .filter(|&&byte| byte == b'\n')
+            .count();
+        let name = format!("line {}", line + 1);
+        (name, line_at(expected, same), line_at(got, same))
+    } else {
+        let telegram = same / TELEGRAM_BYTES;
+        let name = format!("telegram {telegram}, byte {}", same % TELEGRAM_BYTES);
+        (name, telegram_at(expected, same), telegram_at(got, same))
+    };
+    format!("first differing byte {same}, {what}\n  plain:  {plain}\n  proved: {proved}")
+}
+
+/// The line of a text that has this place in it.
+fn line_at(text: &[u8], place: usize) -> String {
+    let (before, after) = text.split_at(place.min(text.len()));
+    let from = before.iter().rposition(|&byte| byte == b'\n');
+    let length = after.iter().position(|&byte| byte == b'\n');
+    let from = from.map_or(0, |newline| newline + 1);
+    let upto = length.map_or(text.len(), |length| before.len() + length);
+    if from == text.len() {
+        return "(nothing)".into();
+    }
+    String::from_utf8_lossy(&text[from..upto]).into_owned()
+}
+
+fn telegram_at(file: &[u8], place: usize) -> String {
+    let from = place / TELEGRAM_BYTES * TELEGRAM_BYTES;
+    let upto = (from + TELEGRAM_BYTES).min(file.len());
+    if from >= upto {
+        return "(nothing)".into();
+    }
+    hex(&file[from..upto])
+}
+
+pub fn hex(bytes: &[u8]) -> String {
+    let digits: Vec<String> = bytes.iter().map(|byte| format!("{byte:02x}")).collect();
+    digits.join(" ")
+}

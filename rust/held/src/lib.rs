@@ -1,0 +1,15 @@
+//! Holds the proved library against the plain one.
+//!
+//! Document 01, "How much a contract has to say", asks that all cases beyond
+//! the reckoned ones be run and compared with an independent program in Rust.
+//! `compare` does that; `bench` measures the two side by side.
+
+pub mod author;
+pub mod desk_regimes;
+pub mod hold;
+pub mod proved;
+pub mod random;
+pub mod recording_regimes;
+pub mod regime;
+pub mod signal_regimes;
+pub mod tally;
