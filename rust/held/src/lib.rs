@@ -13,3 +13,4 @@ pub mod recording_regimes;
 pub mod regime;
 pub mod signal_regimes;
 pub mod tally;
+pub mod words;

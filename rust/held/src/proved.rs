@@ -1,6 +1,6 @@
-//! The four functions of the proved library, and a safe wrapper for each.
+//! The functions of the proved library, and a safe wrapper for each.
 //!
-//! Each takes an input and a lent buffer. The buffer gets the first bytes of
+//! Each but the last takes an input and a lent buffer. The buffer gets the first bytes of
 //! the text and keeps its bytes past them. The answer is how many bytes were
 //! put: the length of the whole text or of the buffer, whichever is less.
 
@@ -24,6 +24,7 @@ extern "C" {
         lines: *mut u8,
         lines_len: usize,
     ) -> usize;
+    fn bravolith_word(word: *const u8, word_len: usize) -> u8;
 }
 
 /// Document 01, "Listing program": a whole recording becomes a whole listing.
@@ -56,4 +57,10 @@ pub fn run_lines(lists: &[u8], lines: &mut [u8]) -> usize {
 pub fn signals(calls: &[u8], lines: &mut [u8]) -> usize {
     // SAFETY: as for `list`.
     unsafe { bravolith_signals(calls.as_ptr(), calls.len(), lines.as_mut_ptr(), lines.len()) }
+}
+
+/// The number of a listing's fixed word, 0 for any other text.
+pub fn word(text: &[u8]) -> u8 {
+    // SAFETY: the slice is valid for its length, and the function only reads it.
+    unsafe { bravolith_word(text.as_ptr(), text.len()) }
 }

@@ -11,7 +11,7 @@ use held::hold::{hex, Function, Holder, LIST, RUN, RUN_LINES, SIGNALS};
 use held::random::Random;
 use held::regime::{Regime, Times};
 use held::tally::Tally;
-use held::{desk_regimes, recording_regimes, signal_regimes};
+use held::{desk_regimes, recording_regimes, signal_regimes, words};
 use std::process::ExitCode;
 use std::time::Instant;
 
@@ -152,6 +152,19 @@ impl Comparison {
         }
     }
 
+    fn words(&mut self) {
+        match words::hold() {
+            Ok(told) => {
+                println!("fixed words and texts near them {told}");
+                self.passed += told;
+            }
+            Err(words) => {
+                println!("{words}");
+                self.failed += 1;
+            }
+        }
+    }
+
     fn one_case(&mut self, name: &str, seed: u64) -> bool {
         for part in [&DESK, &RECORDINGS, &TRAIN] {
             let regime = part.regimes.iter().find(|regime| regime.name == name);
@@ -195,6 +208,9 @@ fn main() -> ExitCode {
         }
         if !comparison.stopped() {
             comparison.part(&TRAIN, |c| c.tally.calls >= c.options.calls);
+        }
+        if !comparison.stopped() {
+            comparison.words();
         }
         comparison.tally.print();
         if !comparison.stopped() {
