@@ -1,5 +1,5 @@
 -- Two texts are the same exactly when their bytes are, and each of the fixed byte strings is told from the others.
-use Prim.Native.Nat.{ℕ, _<_}
+use Prim.Native.Nat.{ℕ}
 use mathlib.Core.Path.{_≡_, refl}
 use mathlib.Core.Bool.{true, not}
 use mathlib.Core.List.{List}

@@ -1,10 +1,6 @@
 -- `put_tail`: a line unless nothing is kept.
-use mathlib.Core.Path.{ap}
-use mathlib.Core.Bool.{Bool, cond}
-use mathlib.Core.List.{[]}
 use borrow.Author.Tests.{eq-eqb, ne-eqb}
 use Rattle.kit.proofs.Put.{poured-as}
-use Rattle.listing_lines.specs.Lines.{refusedLine}
 use Rattle.listing.specs.Listings.{tailLine}
 use borrow.Author.Needs.{needs}
 use Rattle.listing.proofs.put_tail.Statement.{statement}
@@ -21,7 +17,7 @@ same-length c = search needs
 
 returns : tie.Need-returns
 unfolding tailLine
-returns c = poured-as (ap (λ (b : Bool). cond b [] (refusedLine 10)) (eq-eqb _ _ (c .before .before .before .before .before .if1 .taken))) (c .before .before .put-words .ensures)
+returns c = poured-as (simp (eq-eqb _ _ (c .before .before .before .before .before .if1 .taken))) (c .before .before .put-words .ensures)
 
 put-refused-requires : tie.Need-put-refused-requires
 put-refused-requires c κs = search needs
@@ -31,7 +27,7 @@ same-length-2 c = search needs
 
 returns-2 : tie.Need-returns-2
 unfolding tailLine
-returns-2 c = poured-as (ap (λ (b : Bool). cond b [] (refusedLine 10)) (ne-eqb _ _ (c .before .before .before .before .if1 .left))) (c .before .before .put-refused .ensures)
+returns-2 c = poured-as (simp (ne-eqb _ _ (c .before .before .before .before .if1 .left))) (c .before .before .put-refused .ensures)
 
 pub put-tail-spec : {M : Type 1} → statement M
 put-tail-spec =

@@ -19,7 +19,7 @@ abbrev μ-loop : tie.MeasureT-loop
 μ-loop text words i₀ i = length words - i
 
 loop-holds : tie.Need-loop-holds Inv-loop μ-loop
-loop-holds c = 
+loop-holds c =
     let a = c .args in
     let test = differsAt (a .text .now) (a .words .now) in
     let all = length (a .words .now) in
@@ -33,7 +33,7 @@ shared-slice-read-if1-2 : tie.Need-shared-slice-read-if1-2 Inv-loop μ-loop
 shared-slice-read-if1-2 c = search needs
 
 returns : tie.Need-returns Inv-loop μ-loop
-returns c = 
+returns c =
     let a = c .before .before .before .before .before .args in
     let test = differsAt (a .text .now) (a .words .now) in
     let all = length (a .words .now) in
@@ -47,7 +47,7 @@ loop-less : tie.Need-loop-less Inv-loop μ-loop
 loop-less c = search needs
 
 loop-again : tie.Need-loop-again Inv-loop μ-loop
-loop-again c = 
+loop-again c =
     let a = c .before .before .before .before .before .args in
     let test = differsAt (a .text .now) (a .words .now) in
     let all = length (a .words .now) in
@@ -55,7 +55,7 @@ loop-again c =
     (search needs, l .inv .1 ∙ scan-go test _ _ all (l .i) (search needs) (ap not (eq-eqb _ _ (c .if1 .left))))
 
 returns-2 : tie.Need-returns-2 Inv-loop μ-loop
-returns-2 c = 
+returns-2 c =
     let a = c .before .before .args in
     let test = differsAt (a .text .now) (a .words .now) in
     let all = length (a .words .now) in
