@@ -1,4 +1,5 @@
--- All that is printed for a piece has room in the buffer of the program `list_conditions`, so that no byte of a listing is dropped.
+-- All that is printed for a piece has room in a buffer of 65,535 bytes, the header in one of 16 and the end in one of 64. These are the sizes
+-- in the source of the program `list_conditions`; its contracts do not cite these laws, so that whoever alters a size there looks here.
 --
 -- Each telegram prints at most 639 bytes. A piece makes at most one telegram whole for every 26 of its bytes, and one more with the bytes
 -- that were kept; a piece of 2,600 bytes makes at most a hundred whole, whose lines are at most 63,900 bytes. That is so because every slot
@@ -119,11 +120,11 @@ module _ (earlier : List (List ℕ)) (bytes : AllBytes earlier) (piece : List �
   pub piece-short : length (linesOf (afterAll begun earlier) piece) ≤ 639 * ((length piece + 25) / 26)
   piece-short = lines-short (afterAll begun earlier) (after-fit earlier bytes begun begun-fit) piece own
 
-  -- those of a piece of the program
+  -- those of a piece of 2,600 bytes or fewer
   pub program-room : length piece ≤ 2600 → length (linesOf (afterAll begun earlier) piece) ≤ 65535
   program-room p = omega (arith, piece-short)
 
-  -- so that its buffer takes them all
+  -- so that a buffer of that size takes them all
   pub all-put : {before after : List ℕ} {next : ℕ} → length piece ≤ 2600 → length before ≡ 65535 → Poured before 0 (linesOf (afterAll begun earlier) piece) after next
       → Put before 0 (linesOf (afterAll begun earlier) piece) after next
   all-put p room poured = poured-put (omega (arith, program-room p)) poured
