@@ -1,14 +1,14 @@
 -- No byte of an input is lost or read twice: the calls that it has whole, one after another, and what is left behind them are the input. And what
 -- is left has no whole call.
 use Prim.Native.Nat.{ℕ, zero, suc, _+_, _<_, _≤_}
-use mathlib.Core.Path.{_≡_, refl, sym, ap, ap₂, _∙_, subst}
+use mathlib.Core.Path.{_≡_, refl, sym, ap, ap₂, _∙_}
 use mathlib.Core.Bool.{true, false}
 use mathlib.Core.List.{List, [], _∷_, _++_, append-assoc}
 use lib.ListN.{length, take, drop, take-append-drop}
-use lib.Seq.{getD-drop, drop-drop}
+use lib.Seq.{drop-drop}
 use native.Mathlib.Omega.{arith}
 use Rattle.kit.specs.Bytes.{Bytes, wordAt, wordBytes}
-use Rattle.kit.proofs.Bytes.{high-back, low-back}
+use Rattle.kit.proofs.Bytes.{high-back, low-back, drop-bytes}
 use Rattle.kit.proofs.Cases.{on}
 use Rattle.frames.specs.Frames.{follows, sizeOf, isWhole, firstOf, behind, calls, callsOf, left, leftOf, written}
 use Rattle.frames.proofs.Splitting.{size-two, whole-fits, behind-shorter, none-left}
@@ -30,7 +30,7 @@ first-back bare input bytes e =
 
 behind-bytes : (bare : ℕ) (input : List ℕ) → Bytes input → Bytes (behind bare input)
 unfolding behind
-behind-bytes bare input bytes i = subst (λ b. b < 256) (sym (getD-drop (sizeOf bare input) input i 0)) (bytes (sizeOf bare input + i))
+behind-bytes bare input = drop-bytes (sizeOf bare input) input
 
 all-back : (bare most : ℕ) (input : List ℕ) → Bytes input → written (calls bare most input) ++ left bare most input ≡ input
 unfolding calls left written

@@ -41,10 +41,14 @@ module _ {A : Type 0} (of : ℕ → List A) (size : ℕ) (sized : (i : ℕ) → 
       ∙ (getD-append-add (of k) (each of (k + 1) n) (j * size + r) other ∙ (each-at other (k + 1) n j r (omega arith) q ∙ ap (λ (x : ℕ). getD (of x) r other) f))
 
 -- parts that are at most so long
-pub length-each-most : {A : Type 0} (of : ℕ → List A) (most : ℕ) → ((i : ℕ) → length (of i) ≤ most) → (k n : ℕ) → length (each of k n) ≤ n * most
+pub length-each-within : {A : Type 0} (of : ℕ → List A) (most k n : ℕ) → ((i : ℕ) → i < k + n → length (of i) ≤ most) → length (each of k n) ≤ n * most
 unfolding each
-length-each-most of most short k zero = omega arith
-length-each-most of most short k (suc n) = omega (arith, length-append (of k) (each of (k + 1) n), short k, length-each-most of most short (k + 1) n, suc-mul n most)
+length-each-within of most k zero short = omega arith
+length-each-within of most k (suc n) short =
+    omega (arith, length-append (of k) (each of (k + 1) n), short k (omega arith), length-each-within of most (k + 1) n (λ i p. short i (omega arith)), suc-mul n most)
+
+pub length-each-most : {A : Type 0} (of : ℕ → List A) (most : ℕ) → ((i : ℕ) → length (of i) ≤ most) → (k n : ℕ) → length (each of k n) ≤ n * most
+length-each-most of most short k n = length-each-within of most k n (λ i p. short i)
 
 -- one element for each thing: element j is that of thing j
 module _ {A : Type 0} (of : ℕ → A) (n : ℕ) where

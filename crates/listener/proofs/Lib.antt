@@ -1,3 +1,5 @@
+pub mod Every
 pub mod Hearing
 pub mod Promises
+pub mod Sizes
 pub mod Valid

@@ -1,0 +1,113 @@
+-- How large the numbers are that a listener takes from a telegram of bytes and gives in its answers: the number of a slot is a byte, that
+-- of a refusal is at most 15, a table has at most twenty conditions, and steps and gaps are below 8,192.
+use Prim.Native.Nat.{ℕ, _<_, _≤_}
+use mathlib.Core.Path.{_≡_, refl}
+use mathlib.Core.Logic.{inl, inr}
+use mathlib.Core.Bool.{Bool}
+use mathlib.Core.List.{List, [], _∷_}
+use lib.Dec.{eqb}
+use native.Mathlib.Omega.{arith}
+use borrow.Author.Tests.{eqb-true}
+use Rattle.kit.specs.Bytes.{Bytes}
+use Rattle.kit.specs.Each.{each}
+use Rattle.kit.specs.Ladder.{Decides}
+use Rattle.kit.proofs.Cases.{on}
+use Rattle.kit.proofs.Loops.{count-most}
+use Rattle.condition.specs.Slots.{emptySlot, isOccupied, slotRows, slots}
+use Rattle.condition.specs.declared.slots.Slot.{Slot}
+use Rattle.wire.specs.Steps.{steps, gapOf}
+use Rattle.wire.specs.declared.verdicts.Verdict.{Verdict}
+use Rattle.wire.specs.declared.verdicts.Verdict.the-variants.{Accepted, Refused}
+use Rattle.telegram.specs.Sendable.{slotOn}
+use Rattle.telegram.specs.Tables.{tableSlot}
+use Rattle.telegram.specs.Telegrams.{place, codedAt, readRefusal, readRows, slotAt, telegramOf, blank, readOf}
+use Rattle.telegram.specs.declared.Telegram.{Telegram}
+use Rattle.telegram.proofs.Four.{four-each}
+use Rattle.telegram.proofs.Refusals.{reading-refused}
+use Rattle.picture.specs.Pictures.{countOf}
+use Rattle.hand.specs.Sets.{begun, setFor, joined}
+use Rattle.hand.specs.declared.Hand.{Hand}
+use Rattle.last_step.specs.LastSteps.{gapFrom}
+use Rattle.last_step.specs.declared.Last.{Last}
+use Rattle.last_step.specs.declared.Last.the-variants.{Never, Step}
+use Rattle.listener.specs.Listeners.{afterReading, heardOf, hearOf}
+use Rattle.listener.specs.declared.Answer.{Answer}
+use Rattle.listener.specs.declared.Answer.the-variants.{Refused as refused, Repeat, Held, Taken}
+use Rattle.listener.specs.declared.Listener.{Listener}
+use Rattle.listener.proofs.Promises.{ways}
+
+-- ---- what is read
+
+-- the telegram of a reading is what the bytes mean, or the blank one
+read-either : (P : Telegram → Type 0) (bytes : List ℕ) → P (telegramOf bytes) → P blank → P (readOf bytes .telegram)
+unfolding readOf
+read-either P bytes meant none = on (eqb (readRefusal bytes) 0) (λ e. rw e meant) (λ e. rw e none)
+
+-- T-03: the number of a slot that is read
+pub number-byte : (bytes : List ℕ) → Bytes bytes → (k : ℕ) → slotOn (readOf bytes .telegram) k .number < 256
+unfolding telegramOf codedAt
+number-byte bytes fits k =
+    read-either (λ t. slotOn t k .number < 256) bytes
+    (four-each (λ n x. x .number < 256) (slotAt bytes) (λ n below. fits (place n)) (λ n past. omega arith) k)
+    (four-each (λ n x. x .number < 256) (λ n. emptySlot) (λ n below. omega arith) (λ n past. omega arith) k)
+
+-- T-02: its step number
+step-small : (bytes : List ℕ) → readOf bytes .telegram .step < steps
+unfolding telegramOf
+step-small bytes = read-either (λ t. t .step < steps) bytes (omega arith) (omega arith)
+
+-- R-20: the number of a refusal is that of one of the rows, and those go up to 15
+abbrev Within : List (Bool × ℕ) → Type 0
+Within [] = Unit
+Within ((holds, number) ∷ below) = (number ≤ 15) × Within below
+
+within-decides : (rows : List (Bool × ℕ)) (number : ℕ) → Within rows → Decides rows number → number ≤ 15
+within-decides [] number w d = absurd d
+within-decides ((holds, own) ∷ rows) number (p, w) (inl (e, same)) = rw same at p
+within-decides ((holds, own) ∷ rows) number (p, w) (inr (e, d)) = within-decides rows number w d
+
+read-within : (bytes : List ℕ) → Within (readRows bytes)
+unfolding readRows each slotRows
+read-within bytes = omega arith
+
+verdict-small : (bytes : List ℕ) (number : ℕ) → readOf bytes .verdict ≡ Refused number → number ≤ 15
+verdict-small bytes number e = within-decides (readRows bytes) number (read-within bytes) (reading-refused bytes number .0 e)
+
+-- ---- what is answered
+
+-- the numbers of an answer are such
+abbrev pub Small : Answer → Type 0
+Small (refused number) = number ≤ 15
+Small Repeat = Unit
+Small Held = Unit
+Small (Taken step count gap) = (step < steps) × (count ≤ slots) × (gap < steps)
+
+set-step : (hand : Hand) (step : ℕ) → setFor hand step .step ≡ step
+unfolding setFor begun
+set-step hand step = on (eqb (hand .step) step) (λ e. rw e (eqb-true (hand .step) step e)) (λ e. rw e refl)
+
+gap-small : (last : Last) (step : ℕ) → gapFrom last step < steps
+unfolding gapOf
+gap-small Never step = omega arith
+gap-small (Step last) step = omega arith
+
+count-small : (table : List Slot) → countOf table ≤ slots
+unfolding countOf
+count-small table = count-most (λ i. isOccupied (tableSlot table i)) slots
+
+module _ (limit : ℕ) (listener : Listener) where
+  heard-small : (t : Telegram) → t .step < steps → Small (heardOf limit listener t .answer)
+  unfolding joined
+  heard-small t below =
+      let set = setFor (listener .hand) (t .step) in
+      ways limit listener t (λ h number. Small (h .answer)) tt tt (omega arith)
+      (omega (arith, set-step (listener .hand) (t .step)), count-small (joined set t .slots), gap-small (listener .last) (set .step))
+
+  after-small : (t : Telegram) → t .step < steps → (verdict : Verdict) → ((number : ℕ) → verdict ≡ Refused number → number ≤ 15) → Small (afterReading verdict limit listener t .answer)
+  after-small t below Accepted most = heard-small t below
+  after-small t below (Refused number) most = most number refl
+
+  -- whatever the bytes
+  pub hear-small : (bytes : List ℕ) → Small (hearOf limit listener (readOf bytes) .answer)
+  unfolding hearOf
+  hear-small bytes = after-small (readOf bytes .telegram) (step-small bytes) (readOf bytes .verdict) (verdict-small bytes)

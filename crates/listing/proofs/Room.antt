@@ -1,0 +1,147 @@
+-- All that is printed for a piece has room in a buffer of 65,535 bytes, the header in one of 16 and the end in one of 64. These are the sizes
+-- in the source of the program `list_conditions`; its contracts do not cite these laws, so that whoever alters a size there looks here.
+--
+-- Each telegram prints at most 639 bytes. A piece makes at most one telegram whole for every 26 of its bytes, and one more with the bytes
+-- that were kept; a piece of 2,600 bytes makes at most a hundred whole, whose lines are at most 63,900 bytes. That is so because every slot
+-- that the listener holds was read from bytes, after any pieces.
+use Prim.Native.Nat.{ℕ, zero, suc, _+_, _*_, _/_, _≤_}
+use mathlib.Core.Path.{_≡_, refl, sym, ap, _∙_, subst}
+use mathlib.Core.List.{List, [], _∷_}
+use lib.Dec.{eqb}
+use lib.ListN.{length, take, drop, length-append}
+use native.Mathlib.Omega.{arith}
+use Rattle.kit.specs.Bytes.{Bytes}
+use Rattle.kit.specs.Put.{Put, Poured}
+use Rattle.kit.proofs.Bytes.{take-bytes, drop-bytes, append-bytes}
+use Rattle.kit.proofs.Cases.{on, given}
+use Rattle.kit.proofs.Put.{poured-put}
+use Rattle.condition.specs.Slots.{emptySlot}
+use Rattle.telegram.specs.Telegrams.{readOf}
+use Rattle.telegram.proofs.Valid.{never-invalid}
+use Rattle.listener.specs.Listeners.{carries}
+use Rattle.listener.specs.declared.Listener.{Listener}
+use Rattle.listener.proofs.Every.{Every, fresh-every, hear-every}
+use Rattle.listener.proofs.Sizes.{number-byte, hear-small}
+use Rattle.listing_lines.specs.Lines.{headerLine, endLine}
+use Rattle.listing_lines.proofs.Length.{header-long, refused-short, end-short}
+use Rattle.listing_tables.specs.Tables.{heardLines}
+use Rattle.listing_tables.proofs.Length.{Narrow, heard-short}
+use Rattle.listing.specs.Listings.{cut, telegrams, tailOf, heard, listenerAfter, linesFor, tailLine}
+use Rattle.listing.specs.Pieces.{mostTables, begun, joined, keeping, takeOf, linesOf, endOf, Made}
+use Rattle.listing.specs.declared.Lister.{Lister}
+use Rattle.listing.proofs.Kept.{Kept, begun-kept, take-kept, made-kept, joined-kept}
+
+-- ---- telegrams
+
+empty-narrow : Narrow emptySlot
+empty-narrow = (refl, omega arith)
+
+module _ (listener : Listener) (narrow : Every Narrow listener) (telegram : List ℕ) (bytes : Bytes telegram) where
+  next-narrow : Every Narrow (heard listener telegram .listener)
+  next-narrow = hear-every Narrow empty-narrow carries listener (readOf telegram) narrow (λ k. (never-invalid telegram k, number-byte telegram bytes k))
+
+  telegram-short : length (heardLines (heard listener telegram)) ≤ 639
+  telegram-short = heard-short (heard listener telegram) (hear-small carries listener telegram) (next-narrow .picture)
+
+cut-narrow : (n : ℕ) (bytes : List ℕ) → Bytes bytes → (listener : Listener) → Every Narrow listener → Every Narrow (listenerAfter listener (cut n bytes))
+unfolding cut listenerAfter
+cut-narrow zero bytes fits listener narrow = narrow
+cut-narrow (suc n) bytes fits listener narrow =
+    cut-narrow n (drop 26 bytes) (drop-bytes 26 bytes fits) (heard listener (take 26 bytes) .listener) (next-narrow listener narrow (take 26 bytes) (take-bytes 26 bytes fits))
+
+cut-short : (n : ℕ) (bytes : List ℕ) → Bytes bytes → (listener : Listener) → Every Narrow listener → length (linesFor listener (cut n bytes)) ≤ 639 * n
+unfolding cut linesFor
+cut-short zero bytes fits listener narrow = omega arith
+cut-short (suc n) bytes fits listener narrow =
+    let telegram = take 26 bytes in
+    let own : Bytes telegram = take-bytes 26 bytes fits in
+    let next = heard listener telegram .listener in
+    omega (
+      arith,
+      length-append (heardLines (heard listener telegram)) (linesFor next (cut n (drop 26 bytes))),
+      telegram-short listener narrow telegram own,
+      cut-short n (drop 26 bytes) (drop-bytes 26 bytes fits) next (next-narrow listener narrow telegram own),
+    )
+
+-- ---- pieces
+
+-- bytes are kept, and every slot was read from bytes
+record Fit (lister : Lister) : Type 0 where
+  left : List ℕ
+  kept : Kept lister left
+  bytes : Bytes left
+  narrow : Every Narrow (lister .listener)
+
+begun-fit : Fit begun
+unfolding begun
+begun-fit = record { left = []; kept = begun-kept; bytes = λ i. omega arith; narrow = fresh-every Narrow empty-narrow }
+
+module _ (lister : Lister) (fit : Fit lister) (piece : List ℕ) (bytes : Bytes piece) where
+  joined-bytes : Bytes (joined lister piece)
+  joined-bytes = subst Bytes (sym (joined-kept (fit .kept) piece)) (append-bytes (fit .left) piece (fit .bytes) bytes)
+
+  take-fit : Fit (takeOf lister piece)
+  unfolding takeOf keeping telegrams tailOf
+  take-fit =
+      let all = joined lister piece in
+      record {
+        left = tailOf all;
+        kept = take-kept lister piece;
+        bytes = drop-bytes (length all / 26 * 26) all joined-bytes;
+        narrow = cut-narrow (length all / 26) all joined-bytes (lister .listener) (fit .narrow);
+      }
+
+  lines-short : length (linesOf lister piece) ≤ 639 * ((length piece + 25) / 26)
+  unfolding linesOf telegrams
+  lines-short =
+      let all = joined lister piece in
+      let long : length all ≡ length (fit .left) + length piece = ap length (joined-kept (fit .kept) piece) ∙ length-append (fit .left) piece in
+      omega (arith, cut-short (length all / 26) all joined-bytes (lister .listener) (fit .narrow), long, fit .kept .short)
+
+-- every piece has bytes alone
+abbrev pub AllBytes : List (List ℕ) → Type 0
+AllBytes [] = Unit
+AllBytes (piece ∷ more) = Bytes piece × AllBytes more
+
+-- the state after pieces, the oldest first
+unfoldable pub afterAll : Lister → List (List ℕ) → Lister
+afterAll lister [] = lister
+afterAll lister (piece ∷ more) = afterAll (takeOf lister piece) more
+
+after-fit : (pieces : List (List ℕ)) → AllBytes pieces → (lister : Lister) → Fit lister → Fit (afterAll lister pieces)
+unfolding afterAll
+after-fit [] bytes lister fit = fit
+after-fit (piece ∷ more) (own, bytes) lister fit = after-fit more bytes (takeOf lister piece) (take-fit lister fit piece own)
+
+-- ---- what has room
+
+module _ (earlier : List (List ℕ)) (bytes : AllBytes earlier) (piece : List ℕ) (own : Bytes piece) where
+  -- after any pieces of bytes, the lines of a further one: at most 639 bytes for each telegram that becomes whole
+  pub piece-short : length (linesOf (afterAll begun earlier) piece) ≤ 639 * ((length piece + 25) / 26)
+  piece-short = lines-short (afterAll begun earlier) (after-fit earlier bytes begun begun-fit) piece own
+
+  -- those of a piece of 2,600 bytes or fewer
+  pub program-room : length piece ≤ 2600 → length (linesOf (afterAll begun earlier) piece) ≤ 65535
+  program-room p = omega (arith, piece-short)
+
+  -- so that a buffer of that size takes them all
+  pub all-put : {before after : List ℕ} {next : ℕ} → length piece ≤ 2600 → length before ≡ 65535 → Poured before 0 (linesOf (afterAll begun earlier) piece) after next
+      → Put before 0 (linesOf (afterAll begun earlier) piece) after next
+  all-put p room poured = poured-put (omega (arith, program-room p)) poured
+
+-- G-02: the header has room in 16 bytes
+pub header-room : length headerLine ≤ 16
+header-room = omega (arith, header-long)
+
+tail-line-short : (kept : ℕ) → length (tailLine kept) ≤ 11
+unfolding tailLine
+tail-line-short kept = on (eqb kept 0) (λ e. rw e (omega arith)) (λ e. rw e (refused-short 10 (omega arith)))
+
+end-of-short : (lister : Lister) → lister .tables ≤ mostTables → length (endOf lister) ≤ 36
+unfolding endOf
+end-of-short lister few =
+    omega (arith, length-append (tailLine (lister .kept)) (endLine (lister .tables)), tail-line-short (lister .kept), end-short (lister .tables) (omega arith))
+
+-- G-08, G-09: the end has room in 64 bytes, whatever the pieces were
+pub end-room : {lister : Lister} → Made lister → length (endOf lister) ≤ 64
+end-room {lister} m = given (made-kept m) (λ (bytes, k). omega (arith, end-of-short lister (k .few)))
