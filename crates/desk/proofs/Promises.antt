@@ -20,7 +20,8 @@ use Rattle.orders.specs.Orders.{listRows, listRefusal}
 use Rattle.orders.proofs.Lists.{fair}
 use Rattle.orders.proofs.Rows.{list-numbered}
 use Rattle.desk.specs.Desks.{rest, acceptOf, telegramOf, Made}
-use Rattle.desk.specs.Steps.{bodyIn, keptPlace}
+use Rattle.leaving.specs.Leaving.{bodyIn}
+use Rattle.desk.specs.Steps.{keptPlace}
 use Rattle.desk.specs.Runs.{run, Accepted as Accepted-run}
 use Rattle.desk.specs.declared.Desk.{Desk}
 use Rattle.resting.specs.Rests.{isResting}

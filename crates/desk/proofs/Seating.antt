@@ -31,7 +31,8 @@ use Rattle.places.proofs.Live.{live-there, live-none, live-when}
 use Rattle.orders.proofs.Lists.{Fair}
 use Rattle.numbers.specs.Numbers.{nextNumber}
 use Rattle.numbers.proofs.Search.{number-range, number-idle, number-rested}
-use Rattle.desk.specs.Steps.{bodyIn, seated, seatedAll}
+use Rattle.leaving.specs.Leaving.{bodyIn}
+use Rattle.desk.specs.Steps.{seated, seatedAll}
 use Rattle.desk.specs.Rooms.{RoomForAll}
 use Rattle.desk.specs.declared.arriving.Seats.{Seats}
 

@@ -15,8 +15,10 @@ use Rattle.places.specs.declared.Place.{Place}
 use Rattle.order_list.proofs.Listed.{listed-there}
 use Rattle.places.proofs.Live.{live-when}
 use Rattle.orders.proofs.Lists.{Fair, type-kept}
-use Rattle.desk.specs.Steps.{stays, bodyIn, keptPlace}
-use Rattle.desk.proofs.Endings.{kept-stays, kept-ends, kept-at}
+use Rattle.leaving.specs.Leaving.{bodyIn}
+use Rattle.desk.specs.Steps.{stays, keptPlace}
+use Rattle.leaving.proofs.Left.{kept-stays, kept-ends}
+use Rattle.desk.proofs.Endings.{kept-at}
 use Rattle.desk.proofs.Seating.{Distinct, Orderly, inside, live-at, made-held, made-kind}
 
 module _ {places : List Place} (o : Orderly places) {list : List ℕ} (fair : Fair places list) where
@@ -53,7 +55,7 @@ module _ {places : List Place} (o : Orderly places) {list : List ℕ} (fair : Fa
 
     pub stayed : Stayed i (keptPlace list (placeAt places i))
     stayed =
-        subst (λ (x : Place). Stayed i x) (sym (kept-stays list (placeAt places i) listed))
+        subst (λ (x : Place). Stayed i x) (sym (kept-stays list (orderCount list) (placeAt places i) listed))
         (record { was = positive; listed = listed; order = refl; number = refl; body = refl; kind = same-kind; held = made-held fair (there .0) number (o .numbered i positive .0) })
 
   abbrev kept : List Place
@@ -66,7 +68,7 @@ module _ {places : List Place} (o : Orderly places) {list : List ℕ} (fair : Fa
   case i =
       on (stays list (placeAt places i))
       (λ e. inl (subst (λ (x : Place). Stayed i x) (sym (kept-at fair places i)) (stayed i e)))
-      (λ e. inr (kept-at fair places i ∙ kept-ends list (placeAt places i) e))
+      (λ e. inr (kept-at fair places i ∙ kept-ends list (orderCount list) (placeAt places i) e))
 
   kept-free : (i : ℕ) → Case i → placeAt kept i .order ≡ 0 → placeAt kept i ≡ freePlace
   kept-free i (inl s) z = absurd (omega (arith, s .order, s .was))

@@ -23,10 +23,12 @@ use Rattle.orders.proofs.Lists.{listed-self, Fair}
 use Rattle.resting.specs.Rests.{noneEnded, endedAt, isResting}
 use Rattle.resting.specs.declared.Ended.{Ended}
 use Rattle.resting.proofs.Rested.{covers-resting, resting-when}
-use Rattle.desk.specs.Steps.{bodyIn, nextStep, keptPlace, endedNumbers, seatedAll, stepOf}
+use Rattle.leaving.specs.Leaving.{bodyIn}
+use Rattle.desk.specs.Steps.{nextStep, keptPlace, endedNumbers, seatedAll, stepOf}
 use Rattle.desk.specs.Rooms.{RoomForAll}
 use Rattle.desk.specs.declared.Desk.{Desk}
-use Rattle.desk.proofs.Endings.{kept-stays, entry-only, entry-ends, kept-at, ended-long, ended-now, ended-before}
+use Rattle.leaving.proofs.Left.{kept-stays, entry-only, entry-ends, ended-long, ended-now, ended-before}
+use Rattle.desk.proofs.Endings.{kept-at}
 use Rattle.desk.proofs.Seating.{Orderly, inside, New, After, after, room-for-all}
 use Rattle.desk.proofs.Staying.{Stayed, case, kept-orderly, kept-listed}
 
@@ -62,7 +64,7 @@ module _ (rest rows : ℕ) (enough : rest ≤ rows) (few : rows ≤ 11) (desk : 
 
   bar-few : length bar ≤ 220
   bar-few =
-      let e : length bar ≡ slots * rows = length-map ended (λ (e : Ended). e .number) ∙ (ended-long list now (desk .places) (desk .ended) (sound .orderly .twenty) ∙ sound .kept) in
+      let e : length bar ≡ slots * rows = length-map ended (λ (e : Ended). e .number) ∙ (ended-long list (orderCount list) now (desk .places) (desk .ended) (sound .orderly .twenty) ∙ sound .kept) in
       omega arith
 
   -- a new order's place
@@ -120,7 +122,7 @@ module _ (rest rows : ℕ) (enough : rest ≤ rows) (few : rows ≤ 11) (desk : 
   keeps i p listed = go (placing .grown i) (case (sound .orderly) fair i)
     where
       here : placeAt (map (keptPlace list) (desk .places)) i .order ≡ placeAt (desk .places) i .order
-      here = ap (λ (x : Place). x .order) (kept-at fair (desk .places) i ∙ kept-stays list (placeAt (desk .places) i) listed)
+      here = ap (λ (x : Place). x .order) (kept-at fair (desk .places) i ∙ kept-stays list (orderCount list) (placeAt (desk .places) i) listed)
 
       go : (placeAt (next .places) i ≡ placeAt (map (keptPlace list) (desk .places)) i) ⊎ Placed i (placeAt (next .places) i)
           → Stayed (sound .orderly) fair i (placeAt (map (keptPlace list) (desk .places)) i) ⊎ (placeAt (map (keptPlace list) (desk .places)) i ≡ freePlace)
@@ -163,7 +165,7 @@ module _ (rest rows : ℕ) (enough : rest ≤ rows) (few : rows ≤ 11) (desk : 
   -- ---- ended numbers
 
   long : length ended ≡ slots * rows
-  long = ended-long list now (desk .places) (desk .ended) (sound .orderly .twenty) ∙ sound .kept
+  long = ended-long list (orderCount list) now (desk .places) (desk .ended) (sound .orderly .twenty) ∙ sound .kept
 
   -- D-06: the number of an absent order is the one of its slot in the first row
   pub rests : 1 ≤ rows → (i : ℕ) → 1 ≤ placeAt (desk .places) i .order → stands list (placeAt (desk .places) i .order) ≡ false
@@ -171,13 +173,13 @@ module _ (rest rows : ℕ) (enough : rest ≤ rows) (few : rows ≤ 11) (desk : 
   rests some i p absent =
       ap (λ (l : List Ended). endedAt l i .number) next-ended
       ∙ (ap (λ (e : Ended). e .number)
-      (ended-now list now (desk .places) (desk .ended) (sound .orderly .twenty) i (inside (sound .orderly) i p) (omega (arith, inside (sound .orderly) i p, sound .kept))
-      ∙ entry-ends list (placeAt (desk .places) i) now p absent))
+      (ended-now list (orderCount list) now (desk .places) (desk .ended) (sound .orderly .twenty) i (inside (sound .orderly) i p) (omega (arith, inside (sound .orderly) i p, sound .kept))
+      ∙ entry-ends list (orderCount list) (placeAt (desk .places) i) now p absent))
 
   -- the others move on by a row
   pub moves : (r : ℕ) → slots + r < slots * rows → endedAt (next .ended) (slots + r) ≡ endedAt (desk .ended) r
   moves r p =
-      ap (λ (l : List Ended). endedAt l (slots + r)) next-ended ∙ ended-before list now (desk .places) (desk .ended) (sound .orderly .twenty) r (omega (arith, sound .kept))
+      ap (λ (l : List Ended). endedAt l (slots + r)) next-ended ∙ ended-before list (orderCount list) now (desk .places) (desk .ended) (sound .orderly .twenty) r (omega (arith, sound .kept))
 
   -- where an entry with a number comes from: from an order that ended in this step, by its slot, or from a row further in front
   pub data Entry (r : ℕ) : Type 0 where
@@ -192,8 +194,8 @@ module _ (rest rows : ℕ) (enough : rest ≤ rows) (few : rows ≤ 11) (desk : 
       (λ small.
       on (ltb r slots)
       (λ first.
-      let there = ended-now list now (desk .places) (desk .ended) (sound .orderly .twenty) r (ltb-true r slots first) (omega (arith, sound .kept, ltb-true r (slots * rows) small)) in
-      given (entry-only list (placeAt (desk .places) r) now (subst (λ (x : Ended). 1 ≤ x .number) there p))
+      let there = ended-now list (orderCount list) now (desk .places) (desk .ended) (sound .orderly .twenty) r (ltb-true r slots first) (omega (arith, sound .kept, ltb-true r (slots * rows) small)) in
+      given (entry-only list (orderCount list) (placeAt (desk .places) r) now (subst (λ (x : Ended). 1 ≤ x .number) there p))
       (λ (named, absent, e). begun (ltb-true r slots first) named absent (there ∙ e)))
       (λ later.
       let back : r ≡ slots + (r - slots) = omega (arith, ltb-false r slots later) in

@@ -28,7 +28,8 @@ use Rattle.desk.specs.Steps.{keptPlace, seated, seatedAll, stepOf, nextS
 use Rattle.desk.specs.Rooms.{RoomForAll}
 use Rattle.desk.specs.declared.Desk.{Desk}
 use Rattle.desk.specs.declared.arriving.Seats.{Seats}
-use Rattle.desk.proofs.Endings.{kept-at, kept-stays}
+use Rattle.leaving.proofs.Left.{kept-stays}
+use Rattle.desk.proofs.Endings.{kept-at}
 use Rattle.desk.proofs.Resting.{resting-exactly}
 use Rattle.desk.proofs.Seating.{Orderly, newPlace, seated-live, seated-new}
 use Rattle.desk.proofs.Staying.{Stayed, case, kept-orderly}
@@ -129,7 +130,7 @@ module _ {old : List Place} (o : Orderly old) {list : List ℕ} (f : Fair old li
             live-when kept (orderAt list k .number) (placeOf old (orderAt list k .number)) small
             (ap (λ (x : Place). x .order)
             (kept-at f old (placeOf old (orderAt list k .number))
-            ∙ kept-stays list (placeAt old (placeOf old (orderAt list k .number))) (listed-when list (orderCount list) (placeAt old (placeOf old (orderAt list k .number)) .order) k p (sym same)))
+            ∙ kept-stays list (orderCount list) (placeAt old (placeOf old (orderAt list k .number))) (listed-when list (orderCount list) (placeAt old (placeOf old (orderAt list k .number)) .order) k p (sym same)))
             ∙ same));
       }
     where

@@ -1,20 +1,19 @@
 -- The step that an accepted list makes: document 01, "The list and the step", its five points.
 use Prim.Native.Nat.{ℕ, _+_, _%_}
-use mathlib.Core.Bool.{Bool, cond, not, _&&_}
-use mathlib.Core.List.{List, _++_, map}
-use lib.Dec.{eqb}
-use lib.ListN.{length, take, set}
+use mathlib.Core.Bool.{Bool, cond}
+use mathlib.Core.List.{List, map}
+use lib.ListN.{set}
 use Rattle.kit.specs.Loops.{fold}
-use Rattle.condition.specs.Slots.{bodyOf}
 use Rattle.wire.specs.Steps.{steps}
-use Rattle.condition.specs.declared.slots.Body.{Body}
-use Rattle.order_list.specs.Lists.{stands, orderNamed, orderAt, orderCount}
-use Rattle.places.specs.Places.{lowestFree, freePlace, isLive}
+use Rattle.order_list.specs.Lists.{orderAt, orderCount}
+use Rattle.places.specs.Places.{lowestFree, isLive}
 use Rattle.order_list.specs.declared.Order.{Order}
 use Rattle.places.specs.declared.Place.{Place}
-use Rattle.resting.specs.Rests.{noneEnded, isResting}
+use Rattle.resting.specs.Rests.{isResting}
 use Rattle.numbers.specs.Numbers.{nextNumber}
 use Rattle.resting.specs.declared.Ended.{Ended}
+use Rattle.leaving.specs.Leaving as Leaving
+use Rattle.leaving.specs.Leaving.{bodyIn}
 use Rattle.desk.specs.declared.Desk.{Desk}
 use Rattle.desk.specs.declared.arriving.Seats.{Seats}
 
@@ -26,33 +25,15 @@ nextStep step = (step + 1) % steps
 
 -- D-06, D-07: the order of this place is in the list
 abbrev pub stays : List ℕ → Place → Bool
-stays list place = stands list (place .order)
+stays list place = Leaving.stays list (orderCount list) place
 
--- D-07, K-11: the words that the list has for it
-abbrev pub bodyIn : Order → Body
-bodyIn order = bodyOf (order .kind) (order .first) (order .second)
+-- D-06, D-07: what becomes of a place
+abbrev pub keptPlace : List ℕ → Place → Place
+keptPlace list = Leaving.keptPlace list (orderCount list)
 
--- D-07: an order present keeps its slot and number and takes the new words; D-06: the slot of one absent is free
-unfoldable pub keptPlace : List ℕ → Place → Place
-keptPlace list place =
-    cond (stays list place)
-    (record {
-      order = place .order;
-      slot = record { number = place .slot .number; body = bodyIn (orderNamed list (place .order)) };
-    })
-    freePlace
-
--- D-06: a live order absent from the list has ended
-abbrev pub ends : List ℕ → Place → Bool
-ends list place = not (eqb (place .order) 0) && not (stays list place)
-
--- D-06, D-12: its number, with the step in which it ended
-unfoldable pub endedEntry : List ℕ → ℕ → Place → Ended
-endedEntry list step place = cond (ends list place) (record { number = place .slot .number; step = step }) noneEnded
-
--- A-05, A-40: the numbers that ended in this step stand in front, by slot, and the oldest twenty are dropped
-unfoldable pub endedNumbers : List ℕ → ℕ → List Place → List Ended → List Ended
-endedNumbers list step places ended = take (length ended) (map (endedEntry list step) places ++ ended)
+-- A-05, A-40: the numbers that have ended
+abbrev pub endedNumbers : List ℕ → ℕ → List Place → List Ended → List Ended
+endedNumbers list = Leaving.endedNumbers list (orderCount list)
 
 -- ---- who is new
 

@@ -1,7 +1,6 @@
 // The desk: twenty places, the numbers that ended lately, the last number given and the step number. Each accepted list makes one
-// step: orders that are absent leave (leaving), new ones arrive (arriving).
+// step: orders that are absent leave (crate leaving), new ones arrive (arriving).
 mod arriving;
-mod leaving;
 
 use arriving::Seats;
 use places::Place;
@@ -78,8 +77,9 @@ fn advance(desk: Desk, list: &[u8]) -> Desk
     let step = (desk.step + 1) % Desk::STEPS;
     let before = desk.places;
     let were = desk.ended;
-    let ended = leaving::ended_numbers(list, step, before, were);
-    let kept = leaving::kept_places(list, before);
+    let n = (list.len() / order_list::LENGTH) as u8;
+    let ended = leaving::ended_numbers(list, n, step, before, were);
+    let kept = leaving::kept_places(list, n, before);
     let seats = arriving::seat_all(kept, desk.last, ended, step, list);
     let places = seats.places;
     Desk {

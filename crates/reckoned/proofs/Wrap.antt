@@ -19,7 +19,8 @@ use Rattle.resting.specs.Rests.{noneEnded, restsBy, isResting}
 use Rattle.numbers.specs.Numbers.{hasNumber, nextNumber}
 use Rattle.desk.specs.Desks.{rest, freshWith}
 use Rattle.desk.specs.Runs.{run}
-use Rattle.desk.specs.Steps.{keptPlace, endedEntry, endedNumbers, seated, seatedAll, stepOf}
+use Rattle.leaving.specs.Leaving.{keptPlace, endedEntry, endedNumbers}
+use Rattle.desk.specs.Steps.{seated, seatedAll, stepOf}
 use Rattle.desk.specs.declared.Desk.{Desk}
 use Rattle.reckoned.specs.Reckoned.{order, orders, wholly-new, empty, numbers, alone, before-the-wrap}
 

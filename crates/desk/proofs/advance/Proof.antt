@@ -1,7 +1,8 @@
 -- `advance`: who ends, who stays and who is new, one after another; the desk was made, so there is room for all.
-use Prim.Native.Nat.{ℕ, _<_}
+use Prim.Native.Nat.{ℕ, _<_, _≤_}
 use mathlib.Core.List.{List, map}
 use mathlib.Core.Path.{_≡_, refl}
+use lib.ListN.{length}
 use borrow.Author.Needs.{needs}
 use Rattle.wire.specs.Steps.{steps}
 use Rattle.order_list.specs.Lists.{orderCount}
@@ -37,11 +38,17 @@ add-step c =
     let p : c .before .before .args .desk .step < steps = made-sound (c .before .before .pre .0) .below in
     search needs
 
+cast-n : tie.Need-cast-n
+cast-n c =
+    let start = c .before .before .before .before in
+    let p : length (start .args .list .now) ≤ 200 = fair-length (start .args .desk .places) (start .args .list .now) (start .pre .1) in
+    search needs
+
 ended-numbers-requires : tie.Need-ended-numbers-requires
-ended-numbers-requires c κs = let start = c .before .before .before .before in fair-length (start .args .desk .places) (start .args .list .now) (start .pre .1)
+ended-numbers-requires c κs = search needs
 
 kept-places-requires : tie.Need-kept-places-requires
-kept-places-requires c κs = let start = c .before .before .before .before .before in fair-length (start .args .desk .places) (start .args .list .now) (start .pre .1)
+kept-places-requires c κs = search needs
 
 seat-all-requires : tie.Need-seat-all-requires
 seat-all-requires c κs =
@@ -59,4 +66,4 @@ returns c =
 pub advance-spec : {M : Type 1} → statement M
 advance-spec =
     tie.close
-    (tie.spec add-step ended-numbers-requires kept-places-requires seat-all-requires returns)
+    (tie.spec add-step cast-n ended-numbers-requires kept-places-requires seat-all-requires returns)

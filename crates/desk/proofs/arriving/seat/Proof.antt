@@ -14,7 +14,8 @@ use Rattle.order_list.specs.declared.Order.{Order}
 use Rattle.resting.specs.Rests.{isResting}
 use Rattle.numbers.specs.Numbers.{nextNumber}
 use Rattle.desk.specs.Desks.{rest}
-use Rattle.desk.specs.Steps.{bodyIn, seated}
+use Rattle.leaving.specs.Leaving.{bodyIn}
+use Rattle.desk.specs.Steps.{seated}
 use Rattle.desk.specs.declared.arriving.Seats.{Seats}
 use Rattle.desk.proofs.Seating.{seated-live, seated-new}
 use Rattle.desk.proofs.arriving.seat.Statement.{statement}

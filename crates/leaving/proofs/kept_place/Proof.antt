@@ -2,12 +2,9 @@
 use mathlib.Core.Path.{sym}
 use borrow.Author.Needs.{needs}
 use borrow.Author.Tests.{lt-ltb, le-ltb}
-use Rattle.desk.specs.Steps.{keptPlace}
-use Rattle.desk.proofs.leaving.kept_place.Statement.{statement}
-use Rattle.desk.proofs.leaving.kept_place.Tie as tie
-
-cast-n : tie.Need-cast-n
-cast-n c = search needs
+use Rattle.leaving.specs.Leaving.{keptPlace}
+use Rattle.leaving.proofs.kept_place.Statement.{statement}
+use Rattle.leaving.proofs.kept_place.Tie as tie
 
 listed-at-requires : tie.Need-listed-at-requires
 listed-at-requires c κs = search needs
@@ -39,7 +36,6 @@ pub kept-place-spec : {M : Type 1} → statement M
 kept-place-spec =
     tie.close
     (tie.spec
-    cast-n
     listed-at-requires
     order-at-requires
     body-of-requires

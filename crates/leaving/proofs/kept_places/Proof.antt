@@ -9,20 +9,20 @@ use Rattle.kit.specs.Fill.{Filled}
 use Rattle.kit.proofs.Fill.{mapped-none, mapped-more, mapped-all}
 use Rattle.places.specs.Places.{freePlace}
 use Rattle.condition.specs.Slots.{slots}
-use Rattle.desk.specs.Steps.{keptPlace}
-use Rattle.desk.proofs.leaving.kept_places.Statement.{statement}
-use Rattle.desk.proofs.leaving.kept_places.Tie as tie
+use Rattle.leaving.specs.Leaving.{keptPlace}
+use Rattle.leaving.proofs.kept_places.Statement.{statement}
+use Rattle.leaving.proofs.kept_places.Tie as tie
 
 abbrev Inv-loop : tie.InvT-loop
-Inv-loop list places kept₀ i₀ kept i = (i ≤ slots) × Filled freePlace (map (keptPlace list) places) i kept
+Inv-loop list n places kept₀ i₀ kept i = (i ≤ slots) × Filled freePlace (map (keptPlace list n) places) i kept
 
 abbrev μ-loop : tie.MeasureT-loop
-μ-loop list places kept₀ i₀ kept i = slots - i
+μ-loop list n places kept₀ i₀ kept i = slots - i
 
 loop-holds : tie.Need-loop-holds Inv-loop μ-loop
 loop-holds c =
     let a = c .before .args in
-    (search needs, mapped-none (keptPlace (a .list .now)) (a .t2) refl)
+    (search needs, mapped-none (keptPlace (a .list .now) (a .n)) (a .t3) refl)
 
 mul-kept-place : tie.Need-mul-kept-place Inv-loop μ-loop
 mul-kept-place c = search needs
@@ -50,9 +50,9 @@ loop-again c =
     let l = c .before .before .before .loop in
     let start = c .before .before .before .before .before in
     let a = start .args in
-    let twenty : length (a .t2) ≡ slots = start .good .1 .0 .1 .0 .1 in
+    let twenty : length (a .t3) ≡ slots = start .good .1 .1 .0 .1 .0 .1 in
     let p : l .i < slots = search needs in
-    (search needs, mapped-more (keptPlace (a .list .now)) (a .t2) freePlace (omega (arith, twenty)) (l .inv .1) (c .kept-place .ensures))
+    (search needs, mapped-more (keptPlace (a .list .now) (a .n)) (a .t3) freePlace (omega (arith, twenty)) (l .inv .1) (c .kept-place .ensures))
 
 returns : tie.Need-returns Inv-loop μ-loop
 returns c =
@@ -60,7 +60,7 @@ returns c =
     let start = c .before .before .before in
     let a = start .args in
     let past : slots ≤ l .i = search needs in
-    mapped-all (keptPlace (a .list .now)) (a .t2) (omega (arith, start .good .1 .0 .1 .0 .1)) (l .inv .1)
+    mapped-all (keptPlace (a .list .now) (a .n)) (a .t3) (omega (arith, start .good .1 .1 .0 .1 .0 .1)) (l .inv .1)
 
 pub kept-places-spec : {M : Type 1} → statement M
 kept-places-spec =

@@ -1,10 +1,10 @@
 -- `ended_entry`: a free place has no order that could end; otherwise whether the search found the order in the list.
 use mathlib.Core.Path.{sym}
 use borrow.Author.Tests.{eq-eqb, ne-eqb, lt-ltb, le-ltb}
-use Rattle.desk.specs.Steps.{endedEntry}
+use Rattle.leaving.specs.Leaving.{endedEntry}
 use borrow.Author.Needs.{needs}
-use Rattle.desk.proofs.leaving.ended_entry.Statement.{statement}
-use Rattle.desk.proofs.leaving.ended_entry.Tie as tie
+use Rattle.leaving.proofs.ended_entry.Statement.{statement}
+use Rattle.leaving.proofs.ended_entry.Tie as tie
 
 none-requires : tie.Need-none-requires
 none-requires c κs = search needs
@@ -12,9 +12,6 @@ none-requires c κs = search needs
 returns : tie.Need-returns
 unfolding endedEntry
 returns c = simp (eq-eqb _ _ (c .before .if1 .taken), c .none .ensures)
-
-cast-n : tie.Need-cast-n
-cast-n c = search needs
 
 listed-at-requires : tie.Need-listed-at-requires
 listed-at-requires c κs = search needs
@@ -33,4 +30,4 @@ returns-3 c = simp (sym (c .before .listed-at .ensures), le-ltb _ _ (c .if2 .lef
 pub ended-entry-spec : {M : Type 1} → statement M
 ended-entry-spec =
     tie.close
-    (tie.spec none-requires returns cast-n listed-at-requires none-requires-2 returns-2 returns-3)
+    (tie.spec none-requires returns listed-at-requires none-requires-2 returns-2 returns-3)

@@ -8,22 +8,22 @@ use Rattle.kit.specs.Fill.{Filled}
 use Rattle.kit.proofs.Fill.{filled-none, filled-more, filled-all}
 use Rattle.condition.specs.Slots.{slots}
 use Rattle.resting.specs.Rests.{noneEnded}
-use Rattle.desk.specs.Steps.{endedNumbers}
-use Rattle.desk.proofs.Endings.{ended-long}
-use Rattle.desk.proofs.leaving.ended_numbers.Statement.{statement}
-use Rattle.desk.proofs.leaving.ended_numbers.Tie as tie
+use Rattle.leaving.specs.Leaving.{endedNumbers}
+use Rattle.leaving.proofs.Left.{ended-long}
+use Rattle.leaving.proofs.ended_numbers.Statement.{statement}
+use Rattle.leaving.proofs.ended_numbers.Tie as tie
 
 abbrev Inv-loop : tie.InvT-loop
-Inv-loop list step places ended next₀ i₀ next i = (i ≤ 160) × Filled noneEnded (endedNumbers list step places ended) i next
+Inv-loop list n step places ended next₀ i₀ next i = (i ≤ 160) × Filled noneEnded (endedNumbers list n step places ended) i next
 
 abbrev μ-loop : tie.MeasureT-loop
-μ-loop list step places ended next₀ i₀ next i = 160 - i
+μ-loop list n step places ended next₀ i₀ next i = 160 - i
 
 loop-holds : tie.Need-loop-holds Inv-loop μ-loop
 loop-holds c =
     let a = c .before .args in
-    let twenty : length (a .places) ≡ slots = c .before .good .1 .1 .0 .1 .0 .1 in
-    (search needs, filled-none (sym (ended-long (a .list .now) (a .step) (a .places) (a .ended) twenty)))
+    let twenty : length (a .places) ≡ slots = c .before .good .1 .1 .1 .0 .1 .0 .1 in
+    (search needs, filled-none (sym (ended-long (a .list .now) (a .n) (a .step) (a .places) (a .ended) twenty)))
 
 ended-at-requires : tie.Need-ended-at-requires Inv-loop μ-loop
 ended-at-requires c κs = search needs
@@ -45,20 +45,20 @@ loop-again c =
     let l = c .before .before .loop in
     let start = c .before .before .before .before in
     let a = start .args in
-    let twenty : length (a .places) ≡ slots = start .good .1 .1 .0 .1 .0 .1 in
-    let all : length (a .ended) ≡ 160 = start .good .1 .1 .1 .0 .1 .0 .1 in
+    let twenty : length (a .places) ≡ slots = start .good .1 .1 .1 .0 .1 .0 .1 in
+    let all : length (a .ended) ≡ 160 = start .good .1 .1 .1 .1 .0 .1 .0 .1 in
     let p : l .i < 160 = search needs in
-    (search needs, filled-more (omega (arith, ended-long (a .list .now) (a .step) (a .places) (a .ended) twenty)) (l .inv .1) (c .ended-at .ensures))
+    (search needs, filled-more (omega (arith, ended-long (a .list .now) (a .n) (a .step) (a .places) (a .ended) twenty)) (l .inv .1) (c .ended-at .ensures))
 
 returns : tie.Need-returns Inv-loop μ-loop
 returns c =
     let l = c .before .loop in
     let start = c .before .before .before in
     let a = start .args in
-    let twenty : length (a .places) ≡ slots = start .good .1 .1 .0 .1 .0 .1 in
-    let all : length (a .ended) ≡ 160 = start .good .1 .1 .1 .0 .1 .0 .1 in
+    let twenty : length (a .places) ≡ slots = start .good .1 .1 .1 .0 .1 .0 .1 in
+    let all : length (a .ended) ≡ 160 = start .good .1 .1 .1 .1 .0 .1 .0 .1 in
     let past : 160 ≤ l .i = search needs in
-    filled-all (omega (arith, ended-long (a .list .now) (a .step) (a .places) (a .ended) twenty)) (l .inv .1)
+    filled-all (omega (arith, ended-long (a .list .now) (a .n) (a .step) (a .places) (a .ended) twenty)) (l .inv .1)
 
 pub ended-numbers-spec : {M : Type 1} → statement M
 ended-numbers-spec =
