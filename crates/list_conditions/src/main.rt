@@ -2,9 +2,9 @@
 // pieces, so that a recording may have any length.
 use libc::STDIN_FILENO;
 use libc::STDOUT_FILENO;
-use listing::Lister;
+use lister::Lister;
 ghost use mathlib.Core.Path.{_≡_};
-ghost use Rattle.listing.specs.Pieces.{takeOf, Made};
+ghost use Rattle.lister.specs.Pieces.{takeOf, Made};
 
 // How many bytes a piece has: a hundred telegrams. The lines of so many telegrams have room in 65,535 bytes.
 const PIECE: usize = 2600;
@@ -46,6 +46,6 @@ fn show_piece(lister: Lister, piece: &[u8]) -> Lister
 
 fn show_end(lister: Lister) {
     let mut out = [0u8; 64];
-    let n = lister.finish(&mut out, 0);
+    let n = listing::finish(lister, &mut out, 0);
     io::write_all(STDOUT_FILENO, &out[..n]);
 }

@@ -1,5 +1,4 @@
 pub mod Every
 pub mod Hearing
 pub mod Promises
-pub mod Sizes
 pub mod Valid

@@ -1,5 +1,1 @@
-pub mod Cutting
-pub mod Folds
-pub mod Kept
-pub mod Room
 pub mod Whole

@@ -1,53 +1,14 @@
 -- The whole listing of a whole recording: document 01, "Listing program".
-use Prim.Native.Nat.{ℕ, zero, suc, _+_, _*_, _/_}
+use Prim.Native.Nat.{ℕ}
 use mathlib.Core.Bool.{cond}
 use mathlib.Core.List.{List, [], _∷_, _++_}
 use lib.Dec.{eqb}
-use lib.ListN.{length, take, drop}
-use Rattle.telegram.specs.Telegrams.{readOf}
-use Rattle.listener.specs.Listeners.{carries, freshListener, hearOf}
-use Rattle.listener.specs.declared.Heard.{Heard}
-use Rattle.listener.specs.declared.Listener.{Listener}
+use lib.ListN.{length}
+use Rattle.listener.specs.Listeners.{freshListener}
 use Rattle.listing_lines.specs.Lines.{headerLine, refusedLine, endLine}
-use Rattle.listing_tables.specs.Tables.{heardLines, tablesOf}
-
--- W-03: a telegram has 26 bytes
-abbrev pub telegramLength : ℕ
-telegramLength = 26
-
--- G-01: so many telegrams, one after another
-unfoldable pub cut : ℕ → List ℕ → List (List ℕ)
-cut zero bytes = []
-cut (suc count) bytes = take telegramLength bytes ∷ cut count (drop telegramLength bytes)
-
--- G-01: how many telegrams stand there whole, which they are, and the bytes that are left behind them, the tail
-abbrev pub wholeCount : List ℕ → ℕ
-wholeCount bytes = length bytes / telegramLength
-
-unfoldable pub telegrams : List ℕ → List (List ℕ)
-telegrams bytes = cut (wholeCount bytes) bytes
-
-unfoldable pub tailOf : List ℕ → List ℕ
-tailOf bytes = drop (wholeCount bytes * telegramLength) bytes
-
--- W-04: what a listener answers to one telegram, and the listener after it
-abbrev pub heard : Listener → List ℕ → Heard
-heard listener telegram = hearOf carries listener (readOf telegram)
-
--- the listener after telegrams, the oldest first
-unfoldable pub listenerAfter : Listener → List (List ℕ) → Listener
-listenerAfter listener [] = listener
-listenerAfter listener (telegram ∷ more) = listenerAfter (heard listener telegram .listener) more
-
--- G-03, G-07: what is printed on them
-unfoldable pub linesFor : Listener → List (List ℕ) → List ℕ
-linesFor listener [] = []
-linesFor listener (telegram ∷ more) = heardLines (heard listener telegram) ++ linesFor (heard listener telegram .listener) more
-
--- G-09, C-09: how many tables were taken
-unfoldable pub tablesTaken : Listener → List (List ℕ) → ℕ
-tablesTaken listener [] = 0
-tablesTaken listener (telegram ∷ more) = tablesOf (heard listener telegram .answer) + tablesTaken (heard listener telegram .listener) more
+use Rattle.lister.specs.Hearings.{telegrams, tailOf, linesFor, tablesTaken}
+use Rattle.lister.specs.Pieces.{takeOf, linesOf}
+use Rattle.lister.specs.declared.Lister.{Lister}
 
 -- G-08: a short tail prints `refused 10`; A-35: no tail prints nothing
 unfoldable pub tailLine : ℕ → List ℕ
@@ -59,3 +20,19 @@ listing recording =
     headerLine
     ++ (linesFor freshListener (telegrams recording)
     ++ (tailLine (length (tailOf recording)) ++ endLine (tablesTaken freshListener (telegrams recording))))
+
+-- ---- piece by piece
+
+-- what is printed at the end
+unfoldable pub endOf : Lister → List ℕ
+endOf lister = tailLine (lister .kept) ++ endLine (lister .tables)
+
+-- a recording in pieces, put together
+unfoldable pub together : List (List ℕ) → List ℕ
+together [] = []
+together (piece ∷ more) = piece ++ together more
+
+-- what is printed for the pieces, one after another, and at the end
+unfoldable pub printed : Lister → List (List ℕ) → List ℕ
+printed lister [] = endOf lister
+printed lister (piece ∷ more) = linesOf lister piece ++ printed (takeOf lister piece) more

@@ -1,144 +1,24 @@
-// The listing of a recording, piece by piece. A piece is any bytes: a telegram may begin in one piece and end in a later one. What has
-// no room in the lent buffer is dropped, and the answer is the place past what was put.
-use listener::Listener;
-ghost use Prim.Native.Nat.{_+_, _-_, _≤_, min};
-ghost use mathlib.Core.Path.{_≡_};
-ghost use mathlib.Core.List.{[], _∷_};
-ghost use lib.ListN.{length};
+// The listing of a recording: the whole of it from memory, and what stands at its end. The pieces between are those of `lister`.
+use lister::Lister;
 ghost use Rattle.kit.specs.Put.{Poured};
-ghost use Rattle.listing.specs.Listings.{linesFor, tailLine, listing};
-ghost use Rattle.listing.specs.Pieces.{mostTables, begun, keeping, takeOf, linesOf, endOf, Made};
-
-// What is kept from one piece to the next: the listener, how many tables it has taken, and the first bytes of a telegram that is not
-// yet whole; zeros follow them.
-pub struct Lister {
-    pub listener: Listener,
-    pub tables: u64,
-    pub tail: [u8; 26],
-    pub kept: usize,
-}
-
-// The state after a piece, with the place past what was put.
-pub struct Listed {
-    pub lister: Lister,
-    pub at: usize,
-}
-
-const LENGTH: usize = 26;
-
-impl Lister {
-    // Before any piece.
-    pub fn begun() -> Self
-        ensures { λ r. ⌜ r ≡ begun ⌝ }
-    {
-        Lister {
-            listener: Listener::fresh(),
-            tables: 0,
-            tail: [0u8; 26],
-            kept: 0,
-        }
-    }
-
-    // Hears the telegrams that become whole with this piece, and keeps the bytes that are left.
-    pub fn take(self, piece: &[u8], listing: &mut [u8], at: usize) -> Listed
-        requires { ⌜ Made self ⌝ }
-        ensures { λ r. ⌜ (r .lister ≡ takeOf self (now (piece .entry))) × Poured (now (listing .entry)) at (linesOf self (now (piece .entry))) (now (listing .exit)) (r .at) ⌝ }
-    {
-        let mut lister = self;
-        let mut next = text::put_words(listing, at, b"");
-        let mut from: usize = 0;
-        while from < piece.len() {
-            let end = bite_end(lister.kept, from, piece.len());
-            let listed = bite(lister, &piece[from..end], listing, next);
-            lister = listed.lister;
-            next = listed.at;
-            from = end;
-        }
-        Listed { lister, at: next }
-    }
-
-    // The end of the listing: a line for a short tail, and how many tables were taken.
-    pub fn finish(self, listing: &mut [u8], at: usize) -> usize
-        ensures { λ r. ⌜ Poured (now (listing .entry)) at (endOf self) (now (listing .exit)) r ⌝ }
-    {
-        let next = put_tail(self.kept, listing, at);
-        listing_lines::put_end(self.tables, listing, next)
-    }
-}
-
-// Where the bytes end that the telegram in hand still lacks, or the piece, whichever comes first.
-fn bite_end(kept: usize, from: usize, length: usize) -> usize
-    requires { ⌜ (kept ≤ 26) × (from ≤ length) ⌝ }
-    ensures { λ r. ⌜ r ≡ min (from + (26 - kept)) length ⌝ }
-{
-    if LENGTH - kept < length - from {
-        return from + (LENGTH - kept);
-    }
-    length
-}
-
-// How many tables were taken, so many more. The count stays at the greatest number that it can hold.
-fn tally(tables: u64, more: u64) -> u64
-    ensures { λ r. ⌜ r ≡ min (tables + more) mostTables ⌝ }
-{
-    if u64::MAX - tables < more {
-        return u64::MAX;
-    }
-    tables + more
-}
-
-// Hears one telegram; nothing is left of it.
-fn hear_one(lister: Lister, telegram: &[u8], listing: &mut [u8], at: usize) -> Listed
-    ensures { λ r. ⌜ (r .lister ≡ keeping lister (now (telegram .entry) ∷ []) []) × Poured (now (listing .entry)) at (linesFor (lister .listener) (now (telegram .entry) ∷ [])) (now (listing .exit)) (r .at) ⌝ }
-{
-    let listener = lister.listener;
-    let heard = listener.hear(telegram);
-    let answer = heard.answer;
-    let tables = tally(lister.tables, listing_tables::tables_of(answer));
-    let next = listing_tables::put_heard(heard, listing, at);
-    let listener = heard.listener;
-    Listed {
-        lister: Lister {
-            listener,
-            tables,
-            tail: [0u8; 26],
-            kept: 0,
-        },
-        at: next,
-    }
-}
-
-// Takes a piece that is not longer than what the telegram in hand still lacks.
-fn bite(lister: Lister, bytes: &[u8], listing: &mut [u8], at: usize) -> Listed
-    requires { ⌜ Made lister × (lister .kept + length (now bytes) ≤ 26) ⌝ }
-    ensures { λ r. ⌜ (r .lister ≡ takeOf lister (now (bytes .entry))) × Poured (now (listing .entry)) at (linesOf lister (now (bytes .entry))) (now (listing .exit)) (r .at) ⌝ }
-{
-    let mut tail = lister.tail;
-    let kept = text::put_words(&mut tail, lister.kept, bytes);
-    if LENGTH <= kept {
-        return hear_one(lister, &tail, listing, at);
-    }
-    let next = text::put_words(listing, at, b"");
-    let listener = lister.listener;
-    Listed {
-        lister: Lister {
-            listener,
-            tables: lister.tables,
-            tail,
-            kept,
-        },
-        at: next,
-    }
-}
+ghost use Rattle.listing.specs.Listings.{tailLine, listing, endOf};
 
 // A line for a short tail.
-fn put_tail(kept: usize, listing: &mut [u8], at: usize) -> usize
-    ensures { λ r. ⌜ Poured (now (listing .entry)) at (tailLine kept) (now (listing .exit)) r ⌝ }
+fn put_tail(kept: usize, out: &mut [u8], at: usize) -> usize
+    ensures { λ r. ⌜ Poured (now (out .entry)) at (tailLine kept) (now (out .exit)) r ⌝ }
 {
     if kept == 0 {
-        return text::put_words(listing, at, b"");
+        return text::put_words(out, at, b"");
     }
-    listing_lines::put_refused(10, listing, at)
+    listing_lines::put_refused(10, out, at)
+}
+
+// The end of a listing: a line for a short tail, and how many tables were taken.
+pub fn finish(lister: Lister, out: &mut [u8], at: usize) -> usize
+    ensures { λ r. ⌜ Poured (now (out .entry)) at (endOf lister) (now (out .exit)) r ⌝ }
+{
+    let next = put_tail(lister.kept, out, at);
+    listing_lines::put_end(lister.tables, out, next)
 }
 
 // The listing of a whole recording.
@@ -149,5 +29,5 @@ pub fn list(recording: &[u8], out: &mut [u8]) -> usize
     let first = listing_lines::put_header(out, 0);
     let listed = lister.take(recording, out, first);
     let last = listed.lister;
-    last.finish(out, listed.at)
+    finish(last, out, listed.at)
 }

@@ -1,4 +1,5 @@
 // What a listing says of each telegram that was heard: the table that it completed, its refusal, or nothing.
+use condition::SLOTS;
 use condition::Slot;
 use listener::Answer;
 use listener::Heard;
@@ -12,7 +13,7 @@ fn put_picture(picture: [Slot; 20], marks: [bool; 20], listing: &mut [u8], at: u
 {
     let mut next = text::put_words(listing, at, b"");
     let mut i: usize = 0;
-    while i < 20 {
+    while i < SLOTS {
         let slot = picture[i];
         let carried = marks[i];
         next = listing_lines::put_entry(i, slot, carried, listing, next);

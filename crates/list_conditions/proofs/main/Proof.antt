@@ -2,7 +2,7 @@
 use Prim.Native.Nat.{_-_}
 use mathlib.Core.Path.{subst⁻¹}
 use borrow.Author.Needs.{needs}
-use Rattle.listing.specs.Pieces.{Made, made, taken}
+use Rattle.lister.specs.Pieces.{Made, made, taken}
 use Rattle.list_conditions.proofs.main.Statement.{statement}
 use Rattle.list_conditions.proofs.main.Tie as tie
 

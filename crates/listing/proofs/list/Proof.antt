@@ -5,9 +5,9 @@ use mathlib.Core.List.{List, _++_}
 use lib.ListN.{length}
 use Rattle.kit.proofs.Put.{poured-as, poured-then}
 use Rattle.listing_lines.specs.Lines.{headerLine}
-use Rattle.listing.specs.Listings.{listing}
-use Rattle.listing.specs.Pieces.{mostTables, begun, takeOf, linesOf, endOf, Made, made}
-use Rattle.listing.specs.declared.Lister.{Lister}
+use Rattle.lister.specs.Pieces.{mostTables, begun, takeOf, linesOf, Made, made}
+use Rattle.listing.specs.Listings.{listing, endOf}
+use Rattle.lister.specs.declared.Lister.{Lister}
 use Rattle.listing.proofs.Whole.{in-one}
 use borrow.Author.Needs.{needs}
 use Rattle.listing.proofs.list.Statement.{statement}

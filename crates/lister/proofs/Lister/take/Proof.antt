@@ -8,11 +8,11 @@ use native.Mathlib.Omega.{arith}
 use borrow.Author.Needs.{needs}
 use Rattle.kit.specs.Put.{Poured}
 use Rattle.kit.proofs.Put.{poured-as, poured-here, poured-then, poured-length}
-use Rattle.listing.specs.Pieces.{takeOf, linesOf, Made, taken}
-use Rattle.listing.specs.declared.Lister.{Lister}
-use Rattle.listing.proofs.Kept.{made-kept, take-none, lines-none, take-then, lines-of-then}
-use Rattle.listing.proofs.Lister.take.Statement.{statement}
-use Rattle.listing.proofs.Lister.take.Tie as tie
+use Rattle.lister.specs.Pieces.{takeOf, linesOf, Made, taken}
+use Rattle.lister.specs.declared.Lister.{Lister}
+use Rattle.lister.proofs.Kept.{made-kept, take-none, lines-none, take-then, lines-of-then}
+use Rattle.lister.proofs.Lister.take.Statement.{statement}
+use Rattle.lister.proofs.Lister.take.Tie as tie
 
 -- a turn begins with a state that was made
 here : (start : Lister) (bytes : List ℕ) {lister : Lister} → Made start → lister ≡ takeOf start bytes → Made lister

@@ -2,10 +2,10 @@
 use mathlib.Core.Path.{ap, sym, _∙_}
 use Rattle.kit.proofs.Put.{poured-as}
 use Rattle.listing_tables.specs.Tables.{heardLines}
-use Rattle.listing.proofs.Kept.{heard-one, lines-of-one}
+use Rattle.lister.proofs.Kept.{heard-one, lines-of-one}
 use borrow.Author.Needs.{needs}
-use Rattle.listing.proofs.hear_one.Statement.{statement}
-use Rattle.listing.proofs.hear_one.Tie as tie
+use Rattle.lister.proofs.hear_one.Statement.{statement}
+use Rattle.lister.proofs.hear_one.Tie as tie
 
 hear-requires : tie.Need-hear-requires
 hear-requires c κs = search needs

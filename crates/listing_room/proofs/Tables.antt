@@ -13,10 +13,10 @@ use Rattle.listener.specs.declared.Answer.{Answer}
 use Rattle.listener.specs.declared.Answer.the-variants.{Refused, Repeat, Held, Taken}
 use Rattle.listener.specs.declared.Heard.{Heard}
 use Rattle.listener.proofs.Every.{AllOf}
-use Rattle.listener.proofs.Sizes.{Small}
+use Rattle.listing_room.proofs.Sizes.{Small}
 use Rattle.listing_lines.specs.Lines.{tableLine}
-use Rattle.listing_lines.proofs.Length.{table-short, entry-short, refused-short}
+use Rattle.listing_room.proofs.Lines.{table-short, entry-short, refused-short}
 use Rattle.listing_tables.specs.Tables.{entryAt, pictureLines, answerLines, heardLines}
 
 -- a slot that a reader can hold, with a byte for its number
 abbrev pub Narrow : Slot → Type 0

@@ -21,15 +21,16 @@ use Rattle.telegram.proofs.Valid.{never-invalid}
 use Rattle.listener.specs.Listeners.{carries}
 use Rattle.listener.specs.declared.Listener.{Listener}
 use Rattle.listener.proofs.Every.{Every, fresh-every, hear-every}
-use Rattle.listener.proofs.Sizes.{number-byte, hear-small}
+use Rattle.listing_room.proofs.Sizes.{number-byte, hear-small}
 use Rattle.listing_lines.specs.Lines.{headerLine, endLine}
-use Rattle.listing_lines.proofs.Length.{header-long, refused-short, end-short}
+use Rattle.listing_room.proofs.Lines.{header-long, refused-short, end-short}
 use Rattle.listing_tables.specs.Tables.{heardLines}
-use Rattle.listing_tables.proofs.Length.{Narrow, heard-short}
-use Rattle.listing.specs.Listings.{cut, telegrams, tailOf, heard, listenerAfter, linesFor, tailLine}
-use Rattle.listing.specs.Pieces.{mostTables, begun, joined, keeping, takeOf, linesOf, endOf, Made}
-use Rattle.listing.specs.declared.Lister.{Lister}
-use Rattle.listing.proofs.Kept.{Kept, begun-kept, take-kept, made-kept, joined-kept}
+use Rattle.listing_room.proofs.Tables.{Narrow, heard-short}
+use Rattle.lister.specs.Hearings.{cut, telegrams, tailOf, heard, listenerAfter, linesFor}
+use Rattle.lister.specs.Pieces.{mostTables, begun, joined, keeping, takeOf, linesOf, Made}
+use Rattle.listing.specs.Listings.{tailLine, endOf}
+use Rattle.lister.specs.declared.Lister.{Lister}
+use Rattle.lister.proofs.Kept.{Kept, begun-kept, take-kept, made-kept, joined-kept}
 
 -- ---- telegrams
 

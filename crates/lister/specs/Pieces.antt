@@ -1,11 +1,10 @@
 -- A listing made piece by piece: what is kept from one piece to the next, and what each piece prints.
 use Prim.Native.Nat.{ℕ, _+_, _-_, min}
-use mathlib.Core.List.{List, [], _∷_, _++_}
+use mathlib.Core.List.{List, [], _++_}
 use lib.ListN.{length, take, replicate}
 use Rattle.listener.specs.Listeners.{freshListener}
-use Rattle.listing_lines.specs.Lines.{endLine}
-use Rattle.listing.specs.Listings.{telegramLength, telegrams, tailOf, listenerAfter, linesFor, tablesTaken, tailLine}
-use Rattle.listing.specs.declared.Lister.{Lister}
+use Rattle.lister.specs.Hearings.{telegramLength, telegrams, tailOf, listenerAfter, linesFor, tablesTaken}
+use Rattle.lister.specs.declared.Lister.{Lister}
 
 -- the greatest number of tables that is counted; the count stays there
 abbrev pub mostTables : ℕ
@@ -41,21 +40,7 @@ takeOf lister piece = keeping lister (telegrams (joined lister piece)) (tailOf (
 unfoldable pub linesOf : Lister → List ℕ → List ℕ
 linesOf lister piece = linesFor (lister .listener) (telegrams (joined lister piece))
 
--- what is printed at the end
-unfoldable pub endOf : Lister → List ℕ
-endOf lister = tailLine (lister .kept) ++ endLine (lister .tables)
-
 -- R-26: a state that came from `begun` and earlier pieces
 pub data Made : Lister → Type 0 where
   made : Made begun
   taken : {lister : Lister} → Made lister → (piece : List ℕ) → Made (takeOf lister piece)
-
--- a recording in pieces, put together
-unfoldable pub together : List (List ℕ) → List ℕ
-together [] = []
-together (piece ∷ more) = piece ++ together more
-
--- what is printed for the pieces, one after another, and at the end
-unfoldable pub printed : Lister → List (List ℕ) → List ℕ
-printed lister [] = endOf lister
-printed lister (piece ∷ more) = linesOf lister piece ++ printed (takeOf lister piece) more

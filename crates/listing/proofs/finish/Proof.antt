@@ -1,9 +1,9 @@
 -- `finish`: the line of a short tail, then the last line.
 use Rattle.kit.proofs.Put.{poured-then}
-use Rattle.listing.specs.Pieces.{endOf}
+use Rattle.listing.specs.Listings.{endOf}
 use borrow.Author.Needs.{needs}
-use Rattle.listing.proofs.Lister.finish.Statement.{statement}
-use Rattle.listing.proofs.Lister.finish.Tie as tie
+use Rattle.listing.proofs.finish.Statement.{statement}
+use Rattle.listing.proofs.finish.Tie as tie
 
 put-tail-requires : tie.Need-put-tail-requires
 put-tail-requires c κs = search needs

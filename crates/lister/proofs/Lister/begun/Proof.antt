@@ -2,11 +2,11 @@
 use mathlib.Core.Path.{ap}
 use mathlib.Core.List.{[]}
 use Rattle.listener.specs.declared.Listener.{Listener}
-use Rattle.listing.specs.Pieces.{padded, begun}
-use Rattle.listing.proofs.Kept.{state}
+use Rattle.lister.specs.Pieces.{padded, begun}
+use Rattle.lister.proofs.Kept.{state}
 use borrow.Author.Needs.{needs}
-use Rattle.listing.proofs.Lister.begun.Statement.{statement}
-use Rattle.listing.proofs.Lister.begun.Tie as tie
+use Rattle.lister.proofs.Lister.begun.Statement.{statement}
+use Rattle.lister.proofs.Lister.begun.Tie as tie
 
 fresh-requires : tie.Need-fresh-requires
 fresh-requires c κs = search needs

@@ -9,11 +9,11 @@ use Rattle.kit.specs.Put.{Poured}
 use Rattle.listener.specs.declared.Heard.{Heard}
 use Rattle.listener.specs.declared.Listener.{Listener}
 use Rattle.listing_tables.specs.Tables.{heardLines, tablesOf}
-use Rattle.listing.specs.Listings.{telegrams, tailOf, heard, listenerAfter, linesFor, tablesTaken}
-use Rattle.listing.specs.Pieces.{mostTables, padded, begun, joined, keeping, takeOf, linesOf, Made, made, taken}
-use Rattle.listing.specs.declared.Lister.{Lister}
-use Rattle.listing.proofs.Cutting.{telegrams-then, tail-then, tail-short, telegrams-none, tail-all, telegrams-one, tail-none}
-use Rattle.listing.proofs.Folds.{after-then, lines-then, tables-then}
+use Rattle.lister.specs.Hearings.{telegrams, tailOf, heard, listenerAfter, linesFor, tablesTaken}
+use Rattle.lister.specs.Pieces.{mostTables, padded, begun, joined, keeping, takeOf, linesOf, Made, made, taken}
+use Rattle.lister.specs.declared.Lister.{Lister}
+use Rattle.lister.proofs.Cutting.{telegrams-then, tail-then, tail-short, telegrams-none, tail-all, telegrams-one, tail-none}
+use Rattle.lister.proofs.Folds.{after-then, lines-then, tables-then}
 
 -- these bytes are kept, fewer than a telegram has, and the count of tables is one that can be
 pub record Kept (lister : Lister) (bytes : List ℕ) : Type 0 where

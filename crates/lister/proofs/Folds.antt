@@ -5,7 +5,7 @@ use mathlib.Core.List.{List, [], _∷_, _++_, append-assoc}
 use native.Mathlib.Omega.{arith}
 use Rattle.listener.specs.declared.Listener.{Listener}
 use Rattle.listing_tables.specs.Tables.{heardLines}
-use Rattle.listing.specs.Listings.{heard, listenerAfter, linesFor, tablesTaken}
+use Rattle.lister.specs.Hearings.{heard, listenerAfter, linesFor, tablesTaken}
 
 pub after-then : (l : Listener) (a b : List (List ℕ)) → listenerAfter l (a ++ b) ≡ listenerAfter (listenerAfter l a) b
 unfolding listenerAfter

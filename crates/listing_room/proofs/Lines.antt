@@ -14,9 +14,9 @@ use Rattle.condition.specs.declared.slots.Body.{Body}
 use Rattle.condition.specs.declared.slots.Body.the-variants.{Empty, Area, Traction, Current}
 use Rattle.condition.specs.declared.slots.Slot.{Slot}
 use Rattle.listing_words.specs.Words.{blank, lineFeed, numberThen, distanceWord, secondWord, markWord}
-use Rattle.listing_words.proofs.Length.{number-short, distance-short, second-short, mark-short}
+use Rattle.listing_room.proofs.Words.{number-short, distance-short, second-short, mark-short}
 use Rattle.listing_lines.specs.Lines.{headerLine, tableWord, tableLine, entryNumbers, entryWords, entryLine, refusedLine, endWord, endLine}
 use Rattle.listing_lines.proofs.Entries.{entry-empty, entry-occupied}
 
 -- G-02
 pub header-long : length headerLine ≡ 13

@@ -6,7 +6,7 @@ use lib.ListN.{length, take, drop, length-append, length-drop}
 use lib.Seq.{take-append-le, drop-append-le, drop-drop, drop-length, take-all}
 use native.Mathlib.Nat.{suc-mul}
 use native.Mathlib.Omega.{arith}
-use Rattle.listing.specs.Listings.{cut, telegrams, tailOf}
+use Rattle.lister.specs.Hearings.{cut, telegrams, tailOf}
 
 cut-front : (n : ℕ) (xs ys : List ℕ) → n * 26 ≤ length xs → cut n (xs ++ ys) ≡ cut n xs
 unfolding cut

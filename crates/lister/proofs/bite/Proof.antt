@@ -6,13 +6,13 @@ use lib.ListN.{length}
 use native.Mathlib.Omega.{arith}
 use Rattle.kit.specs.Put.{Poured}
 use Rattle.kit.proofs.Put.{poured-as}
-use Rattle.listing.specs.Listings.{linesFor}
-use Rattle.listing.specs.Pieces.{padded, keeping, takeOf, linesOf, Made}
-use Rattle.listing.specs.declared.Lister.{Lister}
-use Rattle.listing.proofs.Kept.{state, made-kept, filled, filled-to, filled-whole, take-part, lines-part, take-one, lines-one}
+use Rattle.lister.specs.Hearings.{linesFor}
+use Rattle.lister.specs.Pieces.{padded, keeping, takeOf, linesOf, Made}
+use Rattle.lister.specs.declared.Lister.{Lister}
+use Rattle.lister.proofs.Kept.{state, made-kept, filled, filled-to, filled-whole, take-part, lines-part, take-one, lines-one}
 use borrow.Author.Needs.{needs}
-use Rattle.listing.proofs.bite.Statement.{statement}
-use Rattle.listing.proofs.bite.Tie as tie
+use Rattle.lister.proofs.bite.Statement.{statement}
+use Rattle.lister.proofs.bite.Tie as tie
 
 module _ {lister : Lister} (m : Made lister) {piece after : List ℕ} {next : ℕ} (room : lister .kept + length piece ≤ 26) (p : Poured (lister .tail) (lister .kept) piece after next)
     {before out : List ℕ} {at to : ℕ} where

@@ -1,0 +1,4 @@
+pub mod Cutting
+pub mod Folds
+pub mod Kept
+pub mod Recording
