@@ -5,12 +5,15 @@
 //! `compare` does that; `bench` measures the two side by side.
 
 pub mod author;
+pub mod damage;
 pub mod desk_regimes;
 pub mod hold;
+pub mod loss;
 pub mod proved;
 pub mod random;
 pub mod recording_regimes;
 pub mod regime;
 pub mod signal_regimes;
 pub mod tally;
+pub mod turns;
 pub mod words;
