@@ -6,7 +6,7 @@ use lister::Lister;
 ghost use mathlib.Core.Path.{_≡_};
 ghost use Rattle.lister.specs.Pieces.{takeOf, Made};
 
-// How many bytes a piece has: a hundred telegrams. The lines of so many telegrams have room in 65,535 bytes.
+// How many bytes a piece has: a hundred telegrams. Their lines have room in 65,535 bytes, which is proved in `listing_room`.
 const PIECE: usize = 2600;
 
 fn main() {
