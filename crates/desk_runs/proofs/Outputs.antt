@@ -3,13 +3,13 @@ use Prim.Native.Nat.{ℕ, _+_, _-_, _≤_}
 use mathlib.Core.Path.{_≡_, refl}
 use mathlib.Core.List.{List, [], _++_, append-assoc}
 use lib.ListN.{length, take, drop}
-use Rattle.frames.specs.Frames.{wholeSize}
-use Rattle.frames.proofs.Splitting.{calls-more, short-more, calls-none, short-none, calls-end, short-end}
+use Rattle.frames.specs.Frames.{wholeSize, shortTail}
+use Rattle.frames.proofs.Splitting.{calls-more, tail-more, calls-none, tail-short, calls-end, tail-end}
 use Rattle.desk.specs.Desks.{rest, acceptOf}
 use Rattle.desk.specs.declared.Answer.{Answer}
 use Rattle.desk.specs.declared.Desk.{Desk}
 use Rattle.desk_output.specs.Outputs.{shortLine}
-use Rattle.desk_runs.specs.Runs.{noBare, listsOf, tableFor, lineFor, tablesFrom, linesFrom, tailOf, tablesWith, linesWith}
+use Rattle.desk_runs.specs.Runs.{noBare, listsOf, tableFor, lineFor, tablesFrom, linesFrom, tablesWith, linesWith}
 
 module _ (desk : Desk) (before : ℕ) (input : List ℕ) where
   module _ (size : ℕ) (sized : size ≡ wholeSize noBare input) where
@@ -23,10 +23,10 @@ module _ (desk : Desk) (before : ℕ) (input : List ℕ) where
       tables-more = rw (calls-more noBare input size sized some) refl
 
       pub lines-more : linesWith desk before input ≡ lineFor (first .verdict) (before + 1) ++ linesWith (first .desk) (before + 1) (drop size input)
-      unfolding linesWith linesFrom listsOf tailOf
+      unfolding linesWith linesFrom listsOf
       lines-more =
-          rw (calls-more noBare input size sized some, short-more noBare input size sized some)
-          (append-assoc (lineFor (first .verdict) (before + 1)) (linesFrom (first .desk) (before + 1) (listsOf (drop size input))) (tailOf (drop size input)))
+          rw (calls-more noBare input size sized some, tail-more noBare input size sized some shortLine)
+          (append-assoc (lineFor (first .verdict) (before + 1)) (linesFrom (first .desk) (before + 1) (listsOf (drop size input))) (shortTail noBare shortLine (drop size input)))
 
     module _ (none : size ≡ 0) where
       pub tables-none : tablesWith desk input ≡ []
@@ -34,8 +34,8 @@ module _ (desk : Desk) (before : ℕ) (input : List ℕ) where
       tables-none = rw (calls-none noBare input size sized none) refl
 
       pub lines-short : 1 ≤ length input → linesWith desk before input ≡ shortLine
-      unfolding linesWith linesFrom listsOf tailOf
-      lines-short some = rw (calls-none noBare input size sized none, short-none noBare input size sized none some) refl
+      unfolding linesWith linesFrom listsOf
+      lines-short some = rw (calls-none noBare input size sized none, tail-short noBare input size sized none shortLine some) refl
 
   module _ (end : length input ≡ 0) where
     pub tables-end : tablesWith desk input ≡ []
@@ -43,5 +43,5 @@ module _ (desk : Desk) (before : ℕ) (input : List ℕ) where
     tables-end = rw (calls-end noBare input end) refl
 
     pub lines-end : linesWith desk before input ≡ []
-    unfolding linesWith linesFrom listsOf tailOf
-    lines-end = rw (calls-end noBare input end, short-end noBare input end) refl
+    unfolding linesWith linesFrom listsOf
+    lines-end = rw (calls-end noBare input end, tail-end noBare input end shortLine) refl

@@ -1,10 +1,9 @@
 -- What comes of a whole input of lists: everything that the program run_desk writes.
 use Prim.Native.Nat.{ℕ, _+_}
-use mathlib.Core.Bool.{cond}
 use mathlib.Core.List.{List, [], _∷_, _++_, map}
 use Rattle.wire.specs.declared.verdicts.Verdict.{Verdict}
 use Rattle.wire.specs.declared.verdicts.Verdict.the-variants.{Accepted, Refused}
-use Rattle.frames.specs.Frames.{Call, callsOf, isShort}
+use Rattle.frames.specs.Frames.{Call, callsOf, shortTail}
 use Rattle.desk.specs.Desks.{rest, freshDesk, acceptOf}
 use Rattle.desk.specs.declared.Desk.{Desk}
 use Rattle.desk_output.specs.Outputs.{tableBytes, refusedLine, shortLine}
@@ -46,15 +45,12 @@ linesFrom desk before (list ∷ later) =
 
 -- ---- a whole input
 
--- the line for an input that ends inside a list
-unfoldable pub tailOf : List ℕ → List ℕ
-tailOf input = cond (isShort noBare input) shortLine []
-
+-- the tables, and the lines with the one for an input that ends inside a list
 unfoldable pub tablesWith : Desk → List ℕ → List ℕ
 tablesWith desk input = tablesFrom desk (listsOf input)
 
 unfoldable pub linesWith : Desk → ℕ → List ℕ → List ℕ
-linesWith desk before input = linesFrom desk before (listsOf input) ++ tailOf input
+linesWith desk before input = linesFrom desk before (listsOf input) ++ shortTail noBare shortLine input
 
 -- D-04: from a fresh desk, the lists counted from 1
 unfoldable pub tablesOf : List ℕ → List ℕ

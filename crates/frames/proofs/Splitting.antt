@@ -2,7 +2,7 @@
 -- How many calls a definition allows at the most does not show in them.
 use Prim.Native.Nat.{ℕ, zero, suc, _-_, _<_, _≤_}
 use mathlib.Core.Path.{_≡_, refl, sym, ap, _∙_}
-use mathlib.Core.Bool.{true, false}
+use mathlib.Core.Bool.{true, false, cond}
 use mathlib.Core.List.{List, [], _∷_}
 use lib.Dec.{ltb}
 use lib.ListN.{length, take, drop, length-drop}
@@ -10,7 +10,7 @@ use native.Mathlib.Omega.{arith}
 use borrow.Author.Tests.{leb-true, leb-false, le-leb, lt-leb, lt-ltb, le-ltb}
 use Rattle.kit.specs.Bytes.{wordAt}
 use Rattle.kit.proofs.Cases.{on}
-use Rattle.frames.specs.Frames.{follows, sizeOf, isWhole, wholeSize, firstOf, behind, calls, callsOf, left, leftOf, isShort}
+use Rattle.frames.specs.Frames.{follows, sizeOf, isWhole, wholeSize, firstOf, behind, calls, callsOf, left, leftOf, isShort, shortTail}
 
 -- ---- the size of the first call
 
@@ -116,9 +116,13 @@ module _ (bare : ℕ) (input : List ℕ) (size : ℕ) (sized : size ≡ wholeSiz
     pub left-more : leftOf bare input ≡ leftOf bare (drop size input)
     left-more = left-whole bare input (here .0) ∙ ap (leftOf bare) behind-size
 
-    pub short-more : isShort bare input ≡ isShort bare (drop size input)
+    short-more : isShort bare input ≡ isShort bare (drop size input)
     unfolding isShort
     short-more = ap (λ l. ltb 0 (length l)) left-more
+
+    pub tail-more : (line : List ℕ) → shortTail bare line input ≡ shortTail bare line (drop size input)
+    unfolding shortTail
+    tail-more line = ap (λ b. cond b line []) short-more
 
   module _ (none : size ≡ 0) where
     -- no call, and all is left
@@ -128,15 +132,23 @@ module _ (bare : ℕ) (input : List ℕ) (size : ℕ) (sized : size ≡ wholeSiz
     pub left-none : leftOf bare input ≡ input
     left-none = left-part bare input (size-unknown bare input (sym sized ∙ none))
 
-    pub short-none : 1 ≤ length input → isShort bare input ≡ true
+    short-none : 1 ≤ length input → isShort bare input ≡ true
     unfolding isShort
     short-none h = ap (λ l. ltb 0 (length l)) left-none ∙ lt-ltb 0 (length input) h
+
+    pub tail-short : (line : List ℕ) → 1 ≤ length input → shortTail bare line input ≡ line
+    unfolding shortTail
+    tail-short line h = ap (λ b. cond b line []) (short-none h)
 
 -- at the end there is no call, and nothing is left
 module _ (bare : ℕ) (input : List ℕ) (end : length input ≡ 0) where
   pub calls-end : callsOf bare input ≡ []
   calls-end = calls-part bare input (none-left bare input (omega arith))
 
-  pub short-end : isShort bare input ≡ false
+  short-end : isShort bare input ≡ false
   unfolding isShort
   short-end = ap (λ l. ltb 0 (length l)) (left-part bare input (none-left bare input (omega arith))) ∙ le-ltb 0 (length input) (omega arith)
+
+  pub tail-end : (line : List ℕ) → shortTail bare line input ≡ []
+  unfolding shortTail
+  tail-end line = ap (λ b. cond b line []) short-end

@@ -55,6 +55,10 @@ leftOf bare input = left bare (length input) input
 unfoldable pub isShort : ℕ → List ℕ → Bool
 isShort bare input = ltb 0 (length (leftOf bare input))
 
+-- what is said at the end of an input: this line where it ends inside a call, and otherwise nothing
+unfoldable pub shortTail : ℕ → List ℕ → List ℕ → List ℕ
+shortTail bare line input = cond (isShort bare input) line []
+
 -- the bytes of calls that stand one after another
 unfoldable pub written : List Call → List ℕ
 written [] = []

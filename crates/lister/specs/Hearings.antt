@@ -31,7 +31,7 @@ tailOf bytes = drop (wholeCount bytes * telegramLength) bytes
 abbrev pub heard : Listener → List ℕ → Heard
 heard listener telegram = hearOf carries listener (readOf telegram)
 
--- the listener after telegrams, the oldest first
+-- W-04: the listener after telegrams, the oldest first
 unfoldable pub listenerAfter : Listener → List (List ℕ) → Listener
 listenerAfter listener [] = listener
 listenerAfter listener (telegram ∷ more) = listenerAfter (heard listener telegram .listener) more

@@ -1,4 +1,4 @@
--- A listing made piece by piece: what is kept from one piece to the next, and what each piece prints.
+-- A listing made piece by piece (W-06, Q-92): what is kept from one piece to the next, and what each piece prints.
 use Prim.Native.Nat.{ℕ, _+_, _-_, min}
 use mathlib.Core.List.{List, [], _++_}
 use lib.ListN.{length, take, replicate}
@@ -6,23 +6,23 @@ use Rattle.listener.specs.Listeners.{freshListener}
 use Rattle.lister.specs.Hearings.{telegramLength, telegrams, tailOf, listenerAfter, linesFor, tablesTaken}
 use Rattle.lister.specs.declared.Lister.{Lister}
 
--- the greatest number of tables that is counted; the count stays there
+-- Q-104: the greatest number of tables that is counted; the count stays there
 abbrev pub mostTables : ℕ
 mostTables = 0xFFFFFFFFFFFFFFFF
 
--- bytes of a telegram that is not yet whole, as they are kept: zeros follow them
+-- A-40: bytes of a telegram that is not yet whole, as they are kept: zeros follow them
 abbrev pub padded : List ℕ → List ℕ
 padded bytes = bytes ++ replicate (telegramLength - length bytes) 0
 
--- before any piece
+-- A-20: before any piece: a fresh listener, no table, nothing kept
 unfoldable pub begun : Lister
 begun = record { listener = freshListener; tables = 0; tail = padded []; kept = 0 }
 
--- the bytes that were kept, and the piece after them
+-- G-01: the bytes that were kept, and the piece after them
 abbrev pub joined : Lister → List ℕ → List ℕ
 joined lister piece = take (lister .kept) (lister .tail) ++ piece
 
--- the state after these telegrams, with these bytes left
+-- G-09: the state after these telegrams, with these bytes left
 unfoldable pub keeping : Lister → List (List ℕ) → List ℕ → Lister
 keeping lister heard left =
     record {
@@ -32,11 +32,11 @@ keeping lister heard left =
       kept = length left;
     }
 
--- the state after a piece: the telegrams that are whole now are heard, and what is left is kept
+-- G-01: the state after a piece: the telegrams that are whole now are heard, and what is left is kept
 unfoldable pub takeOf : Lister → List ℕ → Lister
 takeOf lister piece = keeping lister (telegrams (joined lister piece)) (tailOf (joined lister piece))
 
--- what a piece prints
+-- G-03, G-07: what a piece prints
 unfoldable pub linesOf : Lister → List ℕ → List ℕ
 linesOf lister piece = linesFor (lister .listener) (telegrams (joined lister piece))
 

@@ -23,16 +23,16 @@ listing recording =
 
 -- ---- piece by piece
 
--- what is printed at the end
+-- G-08, G-09: what is printed at the end
 unfoldable pub endOf : Lister → List ℕ
 endOf lister = tailLine (lister .kept) ++ endLine (lister .tables)
 
--- a recording in pieces, put together
+-- W-06: a recording in pieces, put together
 unfoldable pub together : List (List ℕ) → List ℕ
 together [] = []
 together (piece ∷ more) = piece ++ together more
 
--- what is printed for the pieces, one after another, and at the end
+-- G-01 to G-09 without the first line: what is printed for the pieces, one after another, and at the end
 unfoldable pub printed : Lister → List (List ℕ) → List ℕ
 printed lister [] = endOf lister
 printed lister (piece ∷ more) = linesOf lister piece ++ printed (takeOf lister piece) more

@@ -1,9 +1,9 @@
 -- What comes of a whole input of calls: every line that the program read_signals writes.
 use Prim.Native.Nat.{ℕ}
-use mathlib.Core.Bool.{not, cond}
+use mathlib.Core.Bool.{not}
 use mathlib.Core.List.{List, [], _∷_, _++_}
 use lib.Dec.{eqb}
-use Rattle.frames.specs.Frames.{Call, callsOf, isShort}
+use Rattle.frames.specs.Frames.{Call, callsOf, shortTail}
 use Rattle.signals.specs.Signals.{freshSignals, updateOf}
 use Rattle.signals.specs.declared.Signals.{Signals}
 use Rattle.signals.specs.declared.Updated.{Updated}
@@ -22,13 +22,9 @@ unfoldable pub linesFrom : Signals → List Call → List ℕ
 linesFrom signals [] = []
 linesFrom signals (call ∷ later) = lineOf (updatedBy signals call) ++ linesFrom (updatedBy signals call .signals) later
 
--- the line for an input that ends inside a call
-unfoldable pub tailOf : List ℕ → List ℕ
-tailOf input = cond (isShort noTelegram input) shortLine []
-
--- the lines of all calls that the input has whole, and that one
+-- the lines of all calls that the input has whole, and that of an input that ends inside one
 unfoldable pub linesWith : Signals → List ℕ → List ℕ
-linesWith signals input = linesFrom signals (callsOf noTelegram input) ++ tailOf input
+linesWith signals input = linesFrom signals (callsOf noTelegram input) ++ shortTail noTelegram shortLine input
 
 -- S-17: from a fresh record
 unfoldable pub linesOf : List ℕ → List ℕ
