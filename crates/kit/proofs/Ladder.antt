@@ -10,7 +10,7 @@ use mathlib.Core.List.{List, [], _∷_, _++_}
 use lib.Dec.{eqb}
 use native.Mathlib.Omega.{arith}
 use borrow.Author.Tests.{eqb-true, eqb-false}
-use Rattle.kit.specs.Ladder.{ladder, Decides, Silent, above, Numbered}
+use Rattle.kit.specs.Ladder.{ladder, Decides, Silent, above, Numbers, Numbered}
 use Rattle.kit.specs.Each.{each}
 use Rattle.kit.specs.Loops.{first, scan}
 use Rattle.kit.proofs.Cases.{on, given}
@@ -48,6 +48,15 @@ module _ {A : Type 0} where
   silent-append [] lower s = (tt, s)
   silent-append ((t, own) ∷ upper) lower (e, s) = given (silent-append upper lower s) (λ (a, b). ((e, a), b))
 
+  pub decides-append : (upper lower : List (Bool × A)) (answer : A) → Decides (upper ++ lower) answer → Decides upper answer ⊎ (Silent upper × Decides lower answer)
+  decides-append [] lower answer d = inr (tt, d)
+  decides-append ((t, own) ∷ upper) lower answer (inl here) = inl (inl here)
+  decides-append ((t, own) ∷ upper) lower answer (inr (e, d)) = further (decides-append upper lower answer d)
+    where
+      further : Decides upper answer ⊎ (Silent upper × Decides lower answer) → Decides ((t, own) ∷ upper) answer ⊎ (Silent ((t, own) ∷ upper) × Decides lower answer)
+      further (inl above) = inl (inr (e, above))
+      further (inr (s, below)) = inr ((e, s), below)
+
   pub silent-join : (upper lower : List (Bool × A)) → Silent upper → Silent lower → Silent (upper ++ lower)
   silent-join [] lower a b = b
   silent-join ((t, own) ∷ upper) lower (e, a) b = (e, silent-join upper lower a b)
@@ -73,10 +82,14 @@ unfolding each
 numbered-each rows a k zero = tt
 numbered-each rows a k (suc n) = numbered-append (rows k) (each rows (k + 1) n) (a k) (numbered-each rows a (k + 1) n)
 
+-- what is so of each row's number is so of the answer
+pub decides-such : (Such : ℕ → Type 0) (rows : List (Bool × ℕ)) (n : ℕ) → Numbers Such rows → Decides rows n → Such n
+decides-such Such [] n a d = absurd d
+decides-such Such ((t, own) ∷ rows) n (p, a) (inl (e, same)) = subst Such same p
+decides-such Such ((t, own) ∷ rows) n (p, a) (inr (e, d)) = decides-such Such rows n a d
+
 pub decides-positive : (rows : List (Bool × ℕ)) (n : ℕ) → Numbered rows → Decides rows n → 1 ≤ n
-decides-positive [] n a d = absurd d
-decides-positive ((t, own) ∷ rows) n (p, a) (inl (e, same)) = rw same at p
-decides-positive ((t, own) ∷ rows) n (p, a) (inr (e, d)) = decides-positive rows n a d
+decides-positive = decides-such (λ n. 1 ≤ n)
 
 module _ (rows : List (Bool × ℕ)) (numbered : Numbered rows) where
   pub refused-exactly : (n : ℕ) → 1 ≤ n → (ladder 0 rows ≡ n) ↔ Decides rows n

@@ -1,5 +1,6 @@
 pub mod Bytes
 pub mod Cases
+pub mod Contracts
 pub mod Each
 pub mod Fill
 pub mod Ladder

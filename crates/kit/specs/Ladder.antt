@@ -29,7 +29,11 @@ module _ {A : Type 0} where
 unfoldable pub above : ℕ → ℕ → ℕ
 above upper lower = cond (eqb upper 0) lower upper
 
+-- each row's number is such
+abbrev pub Numbers : (ℕ → Type 0) → List (Bool × ℕ) → Type 0
+Numbers Such [] = Unit
+Numbers Such ((holds, number) ∷ below) = Such number × Numbers Such below
+
 -- a ladder whose answers are numbers from 1 on, so that 0 is free to say that no row holds
 abbrev pub Numbered : List (Bool × ℕ) → Type 0
-Numbered [] = Unit
-Numbered ((holds, number) ∷ below) = (1 ≤ number) × Numbered below
+Numbered = Numbers (λ number. 1 ≤ number)

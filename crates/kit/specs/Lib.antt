@@ -1,4 +1,5 @@
 pub mod Bytes
+pub mod Contracts
 pub mod Each
 pub mod Fill
 pub mod Ladder

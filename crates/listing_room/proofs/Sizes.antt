@@ -2,18 +2,15 @@
 -- of a refusal is at most 15, a table has at most twenty conditions, and steps and gaps are below 8,192.
 use Prim.Native.Nat.{ℕ, _<_, _≤_}
 use mathlib.Core.Path.{_≡_, refl}
-use mathlib.Core.Logic.{inl, inr}
-use mathlib.Core.Bool.{Bool}
-use mathlib.Core.List.{List, [], _∷_}
+use mathlib.Core.List.{List}
 use lib.Dec.{eqb}
 use native.Mathlib.Omega.{arith}
 use borrow.Author.Tests.{eqb-true}
 use Rattle.kit.specs.Bytes.{Bytes}
-use Rattle.kit.specs.Each.{each}
-use Rattle.kit.specs.Ladder.{Decides}
+use Rattle.kit.proofs.Ladder.{decides-such}
 use Rattle.kit.proofs.Cases.{on}
 use Rattle.kit.proofs.Loops.{count-most}
-use Rattle.condition.specs.Slots.{emptySlot, isOccupied, slotRows, slots}
+use Rattle.condition.specs.Slots.{emptySlot, isOccupied, slots}
 use Rattle.condition.specs.declared.slots.Slot.{Slot}
 use Rattle.wire.specs.Steps.{steps, gapOf}
 use Rattle.wire.specs.declared.verdicts.Verdict.{Verdict}
@@ -24,6 +21,7 @@ use Rattle.telegram.specs.Telegrams.{place, codedAt, readRefusal, readRows, slo
 use Rattle.telegram.specs.declared.Telegram.{Telegram}
 use Rattle.telegram.proofs.Four.{four-each}
 use Rattle.telegram.proofs.Refusals.{reading-refused}
+use Rattle.telegram.proofs.Rows.{read-to-14}
 use Rattle.picture.specs.Pictures.{countOf}
 use Rattle.hand.specs.Sets.{begun, setFor, joined}
 use Rattle.hand.specs.declared.Hand.{Hand}
@@ -56,22 +54,9 @@ step-small : (bytes : List ℕ) → readOf bytes .telegram .step < steps
 unfolding telegramOf
 step-small bytes = read-either (λ t. t .step < steps) bytes (omega arith) (omega arith)
 
--- R-20: the number of a refusal is that of one of the rows, and those go up to 15
-abbrev Within : List (Bool × ℕ) → Type 0
-Within [] = Unit
-Within ((holds, number) ∷ below) = (number ≤ 15) × Within below
-
-within-decides : (rows : List (Bool × ℕ)) (number : ℕ) → Within rows → Decides rows number → number ≤ 15
-within-decides [] number w d = absurd d
-within-decides ((holds, own) ∷ rows) number (p, w) (inl (e, same)) = rw same at p
-within-decides ((holds, own) ∷ rows) number (p, w) (inr (e, d)) = within-decides rows number w d
-
-read-within : (bytes : List ℕ) → Within (readRows bytes)
-unfolding readRows each slotRows
-read-within bytes = omega arith
-
+-- R-20: the number of a refusal is that of one of the reader's rows
 verdict-small : (bytes : List ℕ) (number : ℕ) → readOf bytes .verdict ≡ Refused number → number ≤ 15
-verdict-small bytes number e = within-decides (readRows bytes) number (read-within bytes) (reading-refused bytes number .0 e)
+verdict-small bytes number e = let below = decides-such (λ n. n ≤ 14) (readRows bytes) number (read-to-14 bytes) (reading-refused bytes number .0 e) in omega arith
 
 -- ---- what is answered
 

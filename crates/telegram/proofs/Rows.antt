@@ -1,11 +1,12 @@
 -- The ladders of a telegram, as the code climbs them.
-use Prim.Native.Nat.{ℕ}
+use Prim.Native.Nat.{ℕ, _≤_}
 use mathlib.Core.Path.{_≡_, refl, sym, _∙_, subst}
 use mathlib.Core.List.{List}
 use lib.ListN.{length}
 use native.Mathlib.Omega.{arith}
 use borrow.Author.Tests.{eqb-true, eq-eqb, ne-eqb, not-false}
-use Rattle.kit.specs.Ladder.{ladder, above, Numbered}
+use Rattle.kit.specs.Each.{each}
+use Rattle.kit.specs.Ladder.{ladder, above, Numbers, Numbered}
 use Rattle.kit.proofs.Ladder.{above-append, numbered-append, numbered-each, passed-exactly}
 use Rattle.condition.specs.Slots.{slotRows}
 use Rattle.condition.specs.declared.slots.Coded.{Coded}
@@ -22,6 +23,11 @@ place-numbered bytes k = numbered-append (slotRows (codedAt bytes k)) (takenRow 
 pub read-numbered : (bytes : List ℕ) → Numbered (readRows bytes)
 unfolding readRows
 read-numbered bytes = (omega arith, (omega arith, numbered-each (placeRows bytes) (place-numbered bytes) 0 4))
+
+-- R-20: hearing's own number, 15, is none of the reader's
+pub read-to-14 : (bytes : List ℕ) → Numbers (λ number. number ≤ 14) (readRows bytes)
+unfolding readRows each slotRows
+read-to-14 bytes = omega arith
 
 pub write-numbered : (packet room : ℕ) → Numbered (writeRows packet room)
 write-numbered packet room = omega arith
