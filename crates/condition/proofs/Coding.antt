@@ -7,18 +7,15 @@ use mathlib.Core.Bool.{true, false, not, _&&_, _||_}
 use lib.Dec.{eqb, ltb, leb}
 use native.Mathlib.Omega.{arith}
 use borrow.Author.Tests.{eqb-true, eqb-false, ltb-true, leb-true, ne-eqb, lt-ltb, le-leb, not-false}
-use Rattle.kit.specs.Ladder.{ladder, Decides, Silent, Numbered}
+use Rattle.kit.specs.Ladder.{Silent, Numbered}
 use Rattle.kit.proofs.Cases.{on, clash, given, and-both, and-second, above-zero}
-use Rattle.kit.proofs.Ladder.{ladder-silent}
 use Rattle.wire.specs.Distances.{noValue}
 use Rattle.kinds.specs.Words.{isType, isConsidered, secondAllowed, secondHeld}
-use Rattle.condition.specs.Slots.{isFilled, isOccupied, bodyOf, slotRows, slotIn, slotOf, coding, codedOf, settled, HeldBody, Held}
+use Rattle.condition.specs.Slots.{isFilled, isOccupied, bodyOf, slotRows, slotIn, coding, codedOf, settled, HeldBody, Held}
 use Rattle.condition.specs.declared.slots.Body.{Body}
 use Rattle.condition.specs.declared.slots.Body.the-variants.{Empty, Area, Traction, Current}
 use Rattle.condition.specs.declared.slots.Coded.{Coded}
 use Rattle.condition.specs.declared.slots.Slot.{Slot}
-use Rattle.wire.specs.declared.verdicts.Verdict.the-variants.{Accepted, Refused}
-use Rattle.wire.proofs.Answers.{verdict-accepted, refused-when, accepted-when}
 
 pub slot-numbered : (c : Coded) → Numbered (slotRows c)
 unfolding slotRows
@@ -214,22 +211,6 @@ coded-silent x h = back (x .number) (x .body) h .0
 pub slot-in-back : (x : Slot) → Held x → slotIn (codedOf x) ≡ x
 unfolding codedOf
 slot-in-back x h = back (x .number) (x .body) h .1
-
--- M-2d of a slot
-pub slot-back : (x : Slot) → Held x → slotOf (codedOf x) ≡ record { verdict = Accepted; slot = x }
-unfolding slotOf
-slot-back x h =
-    let e : ladder 0 (slotRows (codedOf x)) ≡ 0 = ladder-silent 0 (slotRows (codedOf x)) (coded-silent x h) in
-    rw (verdict-accepted (ladder 0 (slotRows (codedOf x))) e, e) (ap (λ y. record { verdict = Accepted; slot = y }) (slot-in-back x h))
-
--- R-23 of a slot: refused exactly when the row holds and none above it does, accepted exactly when none does
-pub slot-refused : (c : Coded) (number : ℕ) → (slotOf c .verdict ≡ Refused number) ↔ Decides (slotRows c) number
-unfolding slotOf
-slot-refused c = refused-when (slotRows c) (slot-numbered c)
-
-pub slot-accepted : (c : Coded) → (slotOf c .verdict ≡ Accepted) ↔ Silent (slotRows c)
-unfolding slotOf
-slot-accepted c = accepted-when (slotRows c) (slot-numbered c)
 
 -- of what a desk or a reader holds, the occupied slots are those with a number
 occupied-by : (number : ℕ) (body : Body) → HeldBody number body → (isFilled body ≡ true) ↔ (0 < number)

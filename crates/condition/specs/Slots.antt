@@ -8,13 +8,11 @@ use lib.Dec.{eqb, ltb}
 use Rattle.kit.specs.Bytes.{wordBytes}
 use Rattle.kit.specs.Ladder.{ladder}
 use Rattle.wire.specs.Distances.{noValue}
-use Rattle.wire.specs.Verdicts.{verdictOf}
 use Rattle.kinds.specs.Words.{isType, secondAllowed, secondHeld}
 use Rattle.condition.specs.declared.slots.Body.{Body}
 use Rattle.condition.specs.declared.slots.Body.the-variants.{Empty, Area, Traction, Current}
 use Rattle.condition.specs.declared.slots.Coded.{Coded}
 use Rattle.condition.specs.declared.slots.Slot.{Slot}
-use Rattle.condition.specs.declared.slots.SlotReading.{SlotReading}
 
 -- W-01: a table has twenty slots, 0 to 19
 abbrev pub slots : ℕ
@@ -59,10 +57,6 @@ slotRows c =
 -- R-20, R-23: the first of these rows that holds, or 0
 abbrev pub slotRefusal : Coded → ℕ
 slotRefusal c = ladder 0 (slotRows c)
-
--- M-1b, M-2b of a slot: its refusal, with the empty slot beside it, or what it means
-unfoldable pub slotOf : Coded → SlotReading
-slotOf c = record { verdict = verdictOf (slotRefusal c); slot = cond (eqb (slotRefusal c) 0) (slotIn c) emptySlot }
 
 -- K-01 to K-04, M-2a: number, type and words of a slot that is written; T-05: an empty slot is all zero
 abbrev pub coding : ℕ → Body → Coded

@@ -5,8 +5,6 @@ pub use slots::Body;
 pub use slots::Coded;
 pub use slots::SLOTS;
 pub use slots::Slot;
-pub use slots::SlotReading;
 pub use slots::body_of;
 pub use slots::coded_of;
 pub use slots::refusal_of;
-pub use slots::slot_of;

@@ -1,6 +1,6 @@
 // A slot, and the number, type and two words that code it.
 ghost use mathlib.Core.Path.{_≡_};
-ghost use Rattle.condition.specs.Slots.{emptySlot, isOccupied, bodyOf, slotRefusal, slotOf, codedOf};
+ghost use Rattle.condition.specs.Slots.{emptySlot, isOccupied, bodyOf, slotRefusal, codedOf};
 use kinds::COUNTRIES;
 use kinds::CURRENT;
 use kinds::TRACTION;
@@ -8,7 +8,6 @@ use kinds::VOLTAGES;
 use kinds::is_kind;
 use kinds::second_allowed;
 use kinds::second_held;
-use wire::Verdict;
 
 // How many slots a table has.
 pub const SLOTS: usize = 20;
@@ -68,12 +67,6 @@ pub struct Coded {
     pub second: u16,
 }
 
-// Beside a refusal stands the empty slot.
-pub struct SlotReading {
-    pub verdict: Verdict,
-    pub slot: Slot,
-}
-
 // The body that a type and two words make. A type that is not 1 to 9 makes none.
 pub fn body_of(kind: u8, first: u16, second: u16) -> Body
     ensures { λ r. ⌜ r ≡ bodyOf kind first second ⌝ }
@@ -125,26 +118,6 @@ pub fn refusal_of(coded: Coded) -> u8
         return 0;
     }
     6
-}
-
-// The slot that the coded one means, or its refusal.
-pub fn slot_of(coded: Coded) -> SlotReading
-    ensures { λ r. ⌜ r ≡ slotOf coded ⌝ }
-{
-    let refusal = refusal_of(coded);
-    if refusal != 0 {
-        return SlotReading {
-            verdict: Verdict::Refused(refusal),
-            slot: Slot::empty(),
-        };
-    }
-    SlotReading {
-        verdict: Verdict::Accepted,
-        slot: Slot {
-            number: coded.number,
-            body: body_of(coded.kind, coded.first, coded.second),
-        },
-    }
 }
 
 // A slot, coded. Of a country and a voltage the ten and the four bits that have room are written: a slot that a desk or a reader

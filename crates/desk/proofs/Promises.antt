@@ -10,6 +10,7 @@ use native.Mathlib.Omega.{arith}
 use Rattle.kit.specs.Ladder.{Decides, Silent}
 use Rattle.kit.specs.Member.{member}
 use Rattle.kit.proofs.Cases.{given}
+use Rattle.kit.proofs.Ladder.{ladder-decides, decides-positive}
 use Rattle.wire.proofs.Answers.{refused-when, accepted-when}
 use Rattle.condition.specs.Slots.{codedOf}
 use Rattle.wire.specs.declared.verdicts.Verdict.the-variants.{Accepted, Refused}
@@ -23,6 +24,7 @@ use Rattle.desk.specs.Desks.{rest, acceptOf, telegramOf, Made}
 use Rattle.leaving.specs.Leaving.{bodyIn}
 use Rattle.desk.specs.Steps.{keptPlace}
 use Rattle.desk.specs.Runs.{run, Accepted as Accepted-run}
+use Rattle.desk.specs.declared.Answer.{Answer}
 use Rattle.desk.specs.declared.Desk.{Desk}
 use Rattle.resting.specs.Rests.{isResting}
 use Rattle.numbers.specs.Numbers.{isPermitted, nextNumber, numberAfter}
@@ -45,6 +47,12 @@ module _ (desk : Desk) (list : List ℕ) where
   pub accepted-by : (acceptOf rest desk list .verdict ≡ Accepted) ↔ Silent (listRows (desk .places) list)
   unfolding acceptOf
   accepted-by = accepted-when (listRows (desk .places) list) (list-numbered (desk .places) list)
+
+  -- D-18, R-24: a refused list changes nothing, the rests included
+  pub refused-unchanged : (number : ℕ) → acceptOf rest desk list .verdict ≡ Refused number → acceptOf rest desk list .desk ≡ desk
+  refused-unchanged number e =
+      let above = decides-positive (listRows (desk .places) list) number (list-numbered (desk .places) list) (refused-by number .0 e) in
+      ap (λ (r : Answer). r .desk) (refuses rest desk list (λ none. omega (arith, ladder-decides 0 number (listRows (desk .places) list) (refused-by number .0 e))))
 
 module _ {desk : Desk} (made : Made desk) where
   -- D-10, L-09: live numbers are 1 to 255, and no two live orders have the same
@@ -69,11 +77,6 @@ module _ {desk : Desk} (made : Made desk) where
   -- M-2d: each packet that it writes is read back
   pub reads-back : (packet : ℕ) → 3 ≤ packet → packet ≤ 7 → readOf (bytesOf (telegramOf desk packet)) ≡ record { verdict = Accepted; telegram = telegramOf desk packet }
   reads-back = packet-read (made-sound made)
-
-  -- D-18, R-24: a refused list changes nothing, the rests included
-  pub refused-unchanged : (list : List ℕ) → (listRefusal (desk .places) list ≡ 0 → ⊥)
-      → acceptOf rest desk list ≡ record { verdict = Refused (listRefusal (desk .places) list); desk = desk }
-  refused-unchanged list = refuses rest desk list
 
   module _ (list : List ℕ) (accepted : listRefusal (desk .places) list ≡ 0) where
     abbrev after : Desk

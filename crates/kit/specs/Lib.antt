@@ -1,3 +1,4 @@
+pub mod Asserted
 pub mod Bytes
 pub mod Contracts
 pub mod Each

@@ -7,11 +7,11 @@ use mathlib.Core.List.{List}
 use native.Mathlib.Omega.{arith}
 use Rattle.kit.specs.Ladder.{ladder, Decides, Silent, Numbered}
 use Rattle.kit.proofs.Cases.{on, given}
-use Rattle.kit.proofs.Ladder.{ladder-decides, ladder-silent, climb, ladder-append, numbered-append, decides-positive, refused-exactly}
+use Rattle.kit.proofs.Ladder.{ladder-decides, ladder-silent, climb, ladder-append, decides-append, numbered-append, decides-such, decides-positive, refused-exactly}
 use Rattle.telegram.specs.Telegrams.{readRows, readOf}
 use Rattle.telegram.specs.declared.Telegram.{Telegram}
 use Rattle.telegram.proofs.Refusals.{reading-refused, reading-accepted}
-use Rattle.telegram.proofs.Rows.{read-numbered}
+use Rattle.telegram.proofs.Rows.{read-numbered, read-to-14}
 use Rattle.picture.specs.Pictures.{clashes}
 use Rattle.hand.specs.Sets.{begun, setFor, isHeld, joined, isWhole}
 use Rattle.last_step.specs.LastSteps.{isLast}
@@ -118,3 +118,24 @@ module _ (limit : ℕ) (listener : Listener) where
         ∙ ways (readOf bytes .telegram) (λ h n. n ≡ 15 → h ≡ record { answer = refused 15; listener = holding listener (begun 0) })
         (λ e. absurd (omega arith)) (λ e. absurd (omega arith)) (λ e. refl) (λ e. absurd (omega arith))
         (ladder-decides 0 15 (clashRow listener (readOf bytes .telegram)) d)
+
+    -- which of the two it was
+    by-whom : (number : ℕ) → heard .answer ≡ refused number → Decides (readRows bytes) number ⊎ (Silent (readRows bytes) × Decides (clashRow listener (readOf bytes .telegram)) number)
+    by-whom number e = decides-append (readRows bytes) (clashRow listener (readOf bytes .telegram)) number (refused-when number .0 e)
+
+    -- M-1f, L-11, R-24: so a refusal under another number than 15 changes nothing
+    pub others-unchanged : (number : ℕ) → (number ≡ 15 → ⊥) → heard .answer ≡ refused number → heard .listener ≡ listener
+    others-unchanged number other e = go (by-whom number e)
+      where
+        go : Decides (readRows bytes) number ⊎ (Silent (readRows bytes) × Decides (clashRow listener (readOf bytes .telegram)) number) → heard .listener ≡ listener
+        go (inl d) = ap (λ (h : Heard). h .listener) (refused-unchanged number d)
+        go (inr (s, inl (holds, own))) = absurd (other (sym own))
+        go (inr (s, inr (holds, none))) = absurd none
+
+    -- M-1f, L-10: and 15 drops the set in hand, and leaves the rest
+    pub fifteen-drops : heard .answer ≡ refused 15 → heard .listener ≡ holding listener (begun 0)
+    fifteen-drops e = go (by-whom 15 e)
+      where
+        go : Decides (readRows bytes) 15 ⊎ (Silent (readRows bytes) × Decides (clashRow listener (readOf bytes .telegram)) 15) → heard .listener ≡ holding listener (begun 0)
+        go (inl d) = let low = decides-such (λ n. n ≤ 14) (readRows bytes) 15 (read-to-14 bytes) d in absurd (omega arith)
+        go (inr (s, d)) = ap (λ (h : Heard). h .listener) (clash-drops s d)

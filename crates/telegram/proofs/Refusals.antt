@@ -4,11 +4,11 @@ use Prim.Native.Nat.{ℕ, _≤_}
 use mathlib.Core.Path.{_≡_, refl, sym, _∙_}
 use mathlib.Core.Logic.{_↔_}
 use mathlib.Core.List.{List}
-use lib.Dec.{eqb}
+use lib.Dec.{eqb, leb}
 use lib.ListN.{length}
-use borrow.Author.Tests.{eqb-true, eqb-false, eq-eqb, le-leb}
+use borrow.Author.Tests.{eqb-true, eqb-false, eq-eqb, leb-true, le-leb, not-false}
 use Rattle.kit.specs.Ladder.{Decides, Silent}
-use Rattle.kit.proofs.Cases.{on}
+use Rattle.kit.proofs.Cases.{on, and-both}
 use Rattle.wire.proofs.Answers.{accepted-or-refused, refused-when, accepted-when}
 use Rattle.wire.specs.declared.verdicts.Verdict.the-variants.{Accepted, Refused}
 use Rattle.telegram.specs.Telegrams.{readRows, readOf, bytesOf, writeRows, writeRefusal, writeVerdict, written}
@@ -54,3 +54,10 @@ module _ (t : Telegram) (buffer : List ℕ) where
   packet-fills low high long =
       accepted-written
       (writing-accepted .1 (rw (le-leb 3 (t .packet) low, le-leb (t .packet) 7 high) refl, (rw (eq-eqb (length buffer) 26 long) refl, tt)))
+
+  -- R-09, R-10: and an accepted one is of a packet from 3 to 7, into a buffer of 26 bytes
+  pub accepted-asked : writeVerdict t buffer ≡ Accepted → (3 ≤ t .packet) × (t .packet ≤ 7) × (length buffer ≡ 26)
+  accepted-asked e =
+      let rows : Silent (writeRows (t .packet) (length buffer)) = writing-accepted .0 e in
+      let asked = and-both (leb 3 (t .packet)) (leb (t .packet) 7) (not-false _ (rows .0)) in
+      (leb-true 3 (t .packet) (asked .0), leb-true (t .packet) 7 (asked .1), eqb-true (length buffer) 26 (not-false _ (rows .1 .0)))

@@ -73,6 +73,12 @@ never-invalid bytes k =
     subst (λ r. Held (slotOn (r .telegram) k)) (sym (read-refused bytes (ladder 0 (readRows bytes)) refl (eqb-false (ladder 0 (readRows bytes)) 0 e)))
     (four-each (λ n x. Held x) (λ n. emptySlot) (λ n below. refl) (λ n past. refl) k))
 
+-- what is accepted is what the bytes mean
+pub accepted-means : (bytes : List ℕ) → readOf bytes .verdict ≡ Accepted → readOf bytes .telegram ≡ telegramOf bytes
+accepted-means bytes accepted =
+    let z : 0 ≡ ladder 0 (readRows bytes) = sym (ladder-silent 0 (readRows bytes) (reading-accepted bytes .0 accepted)) in
+    ap (λ r. r .telegram) (read-accepted bytes 0 z refl)
+
 -- what is accepted is a telegram that can be sent
 pub read-sendable : (bytes : List ℕ) → Bytes bytes → Silent (readRows bytes) → Sendable (telegramOf bytes)
 unfolding telegramOf
@@ -87,7 +93,4 @@ read-sendable bytes fits s =
     }
 
 pub accepted-sendable : (bytes : List ℕ) → Bytes bytes → readOf bytes .verdict ≡ Accepted → Sendable (readOf bytes .telegram)
-accepted-sendable bytes fits accepted =
-    let s : Silent (readRows bytes) = reading-accepted bytes .0 accepted in
-    let z : 0 ≡ ladder 0 (readRows bytes) = sym (ladder-silent 0 (readRows bytes) s) in
-    subst (λ r. Sendable (r .telegram)) (sym (read-accepted bytes 0 z refl)) (read-sendable bytes fits s)
+accepted-sendable bytes fits accepted = subst Sendable (sym (accepted-means bytes accepted)) (read-sendable bytes fits (reading-accepted bytes .0 accepted))

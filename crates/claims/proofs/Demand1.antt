@@ -1,0 +1,97 @@
+-- Demand 1 is proved: each contract is an equation with a definition, and each definition keeps the promise.
+use Prim.Native.Nat.{ℕ}
+use mathlib.Core.Path.{_≡_, refl, sym, ap, _∙_, subst, subst⁻¹}
+use mathlib.Core.Bool.{Bool, true, false}
+use mathlib.Core.List.{List}
+use contract.Monad.{fact-mono}
+use lib.ListN.{length}
+use Rattle.kit.proofs.Contracts.{agree, both-facts}
+use Rattle.wire.specs.declared.verdicts.Verdict.the-variants.{Refused}
+use Rattle.telegram.specs.Telegrams.{readRows, writeRows}
+use Rattle.telegram.proofs.Refusals.{reading-refused, writing-refused, refused-untouched}
+use Rattle.train_codes.specs.Refusals.{trainRows}
+use Rattle.orders.specs.Orders.{listRows}
+use Rattle.desk.specs.Desks.{telegramOf}
+use Rattle.desk.proofs.Promises as desk-promises
+use Rattle.hand.specs.Sets.{begun}
+use Rattle.listener.specs.Listeners.{carries, holding, hearRows}
+use Rattle.listener.specs.declared.Answer.the-variants as Heard
+use Rattle.listener.proofs.Promises as listener-promises
+use Rattle.signals.specs.Signals.{missedBy, updateOf}
+use Rattle.signals.specs.declared.Signals.{Signals}
+use Rattle.signals.specs.declared.Updated.{Updated}
+use Rattle.signals.specs.declared.Answer.the-variants as Train
+use Rattle.signals.proofs.Promises as train-promises
+use Rattle.claims.specs.Demand1.{RefusedBy, Lists, Telegrams, TrainTelegrams, TrainTelegramsLent, Buffers, Demand1}
+
+lists : Lists
+lists =
+    record {
+      defined = λ κs handed answer other lasts others p q. (agree p q, refl);
+      refused = λ κs (desk, (list, _)) answer lasts p. subst⁻¹ (λ a. RefusedBy (listRows (desk .places) (list .now)) Refused (a .verdict)) p (desk-promises.refused-by desk (list .now));
+      unchanged = λ κs (desk, (list, _)) answer lasts p.
+          subst⁻¹ (λ a. (number : ℕ) → a .verdict ≡ Refused number → a .desk ≡ desk) p (desk-promises.refused-unchanged desk (list .now));
+    }
+
+telegrams : Telegrams
+telegrams =
+    record {
+      read-defined = λ κs handed answer other lasts others p q. (agree p q, refl);
+      read-refused = λ κs (bytes, _) answer lasts p. subst⁻¹ (λ a. RefusedBy (readRows (bytes .now)) Refused (a .verdict)) p (reading-refused (bytes .now));
+      defined = λ κs handed answer other lasts others p q. (agree p q, refl);
+      refused = λ κs (listener, (telegram, _)) heard lasts p.
+          subst⁻¹ (λ h. RefusedBy (hearRows listener (telegram .now)) Heard.Refused (h .answer)) p (listener-promises.refused-when carries listener (telegram .now));
+      dropped = λ κs (listener, (telegram, _)) heard lasts p.
+          subst⁻¹ (λ h. h .answer ≡ Heard.Refused 15 → h .listener ≡ holding listener (begun 0)) p (listener-promises.fifteen-drops carries listener (telegram .now));
+      unchanged = λ κs (listener, (telegram, _)) heard lasts p.
+          subst⁻¹ (λ h. (number : ℕ) → (number ≡ 15 → ⊥) → h .answer ≡ Heard.Refused number → h .listener ≡ listener) p
+          (listener-promises.others-unchanged carries listener (telegram .now));
+    }
+
+-- a call with a telegram, and one with none; the promise of the answer and of the record, whether it is handed over or lent
+module _ (signals : Signals) (telegram : List ℕ) where
+  call-refused : (present : Bool) → present ≡ true → RefusedBy (trainRows telegram) Train.Refused (updateOf signals present telegram .answer)
+  call-refused present with-one = subst (λ b. RefusedBy (trainRows telegram) Train.Refused (updateOf signals b telegram .answer)) (sym with-one) (train-promises.refused-exactly signals telegram)
+
+  call-absent : (present : Bool) → present ≡ false → updateOf signals present telegram .answer ≡ Train.Missed
+  call-absent present none = ap (λ b. updateOf signals b telegram .answer) none ∙ ap (λ (u : Updated). u .answer) (train-promises.absent-misses signals telegram)
+
+  call-missed : (present : Bool) (number : ℕ) → updateOf signals present telegram .answer ≡ Train.Refused number → updateOf signals present telegram .signals ≡ missedBy signals
+  call-missed true number e = train-promises.refused-misses signals telegram number e
+  call-missed false number e = ap (λ (u : Updated). u .signals) (train-promises.absent-misses signals telegram)
+
+train : TrainTelegrams
+train =
+    record {
+      defined = λ κs handed answer other lasts others p q. (agree p q, refl);
+      refused = λ κs (signals, (present, (telegram, _))) updated lasts p.
+          subst⁻¹ (λ u. present ≡ true → RefusedBy (trainRows (telegram .now)) Train.Refused (u .answer)) p (call-refused signals (telegram .now) present);
+      absent = λ κs (signals, (present, (telegram, _))) updated lasts p. subst⁻¹ (λ u. present ≡ false → u .answer ≡ Train.Missed) p (call-absent signals (telegram .now) present);
+      missed = λ κs (signals, (present, (telegram, _))) updated lasts p.
+          subst⁻¹ (λ u. (number : ℕ) → u .answer ≡ Train.Refused number → u .signals ≡ missedBy signals) p (call-missed signals (telegram .now) present);
+    }
+
+train-lent : TrainTelegramsLent
+train-lent =
+    record {
+      defined = λ M 𝓤 H A mem run κs handed ghost answer other lasts others. both-facts 𝓤 _ _ _ (λ p q. (agree (p .0) (q .0), ap (λ after. (after, (tt, (tt, tt)))) (agree (p .1) (q .1))));
+      refused = λ M 𝓤 H A mem run κs (held, (present, (telegram, _))) ghost answer lasts.
+          fact-mono 𝓤 _ _ (λ p. subst⁻¹ (λ a. present ≡ true → RefusedBy (trainRows (telegram .now)) Train.Refused a) (p .0) (call-refused (held .now) (telegram .now) present));
+      absent = λ M 𝓤 H A mem run κs (held, (present, (telegram, _))) ghost answer lasts.
+          fact-mono 𝓤 _ _ (λ p none. p .0 ∙ call-absent (held .now) (telegram .now) present none);
+      missed = λ M 𝓤 H A mem run κs (held, (present, (telegram, _))) ghost answer lasts.
+          fact-mono 𝓤 _ _ (λ p number e. p .1 ∙ call-missed (held .now) (telegram .now) present number (sym (p .0) ∙ e));
+    }
+
+buffers : Buffers
+unfolding telegramOf
+buffers =
+    record {
+      defined = λ κs handed answer other lasts others p q. (agree (p .0) (q .0), ap (λ bytes. (tt, (tt, (bytes, tt)))) (agree (p .1) (q .1)));
+      refused = λ κs (desk, (packet, (buffer, _))) verdict lasts p.
+          subst⁻¹ (λ v. RefusedBy (writeRows packet (length (buffer .now))) Refused v) (p .0) (writing-refused (telegramOf desk packet) (buffer .now));
+      unchanged = λ κs (desk, (packet, (buffer, _))) verdict lasts p number e. p .1 ∙ refused-untouched (telegramOf desk packet) (buffer .now) number (sym (p .0) ∙ e);
+    }
+
+pub demand1 : Demand1
+demand1 = record { lists = lists; telegrams = telegrams; train = train; train-lent = train-lent; buffers = buffers }

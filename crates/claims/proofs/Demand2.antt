@@ -1,0 +1,127 @@
+-- Demand 2 is proved: each contract is an equation with a definition, and the definitions of writing and reading fit together.
+use Prim.Native.Nat.{ℕ, _<_}
+use mathlib.Core.Path.{_≡_, refl, sym, ap, _∙_, subst⁻¹}
+use mathlib.Core.Bool.{Bool, true, false, cond}
+use mathlib.Core.List.{List}
+use lib.ListN.{length, getD}
+use native.Mathlib.Omega.{arith}
+use Rattle.kit.specs.Bytes.{Bytes}
+use Rattle.kit.proofs.Cases.{given}
+use Rattle.wire.specs.Distances.{InRange, distanceWord}
+use Rattle.wire.specs.declared.verdicts.Verdict.the-variants.{Accepted}
+use Rattle.wire.proofs.Metres.{word-said}
+use Rattle.condition.specs.Slots.{Held, settled, codedOf}
+use Rattle.condition.proofs.Coding.{coded-back}
+use Rattle.telegram.specs.Sendable.{slotOn, isIdle}
+use Rattle.telegram.specs.Tables.{tableSlot}
+use Rattle.telegram.specs.Telegrams.{codedAt, telegramOf as meant, bytesOf, readOf, writeVerdict, written}
+use Rattle.telegram.proofs.Carried.{slot-carried}
+use Rattle.telegram.proofs.Refusals.{reading-accepted, accepted-written, accepted-asked, packet-fills}
+use Rattle.telegram.proofs.Valid.{length-read, slot-read, slot-meant, never-invalid, accepted-means, accepted-sendable}
+use Rattle.telegram.proofs.Wire.{length-bytes, coded-on, packet-on, step-on}
+use Rattle.telegram.proofs.WriteAgain.{write-again}
+use Rattle.desk.specs.Desks.{Made, tableOf, telegramOf}
+use Rattle.desk.specs.declared.Desk.{Desk}
+use Rattle.desk.proofs.Making.{made-sound}
+use Rattle.desk.proofs.Tables.{packet-sendable, packet-read}
+use Rattle.listener.specs.Listeners.{carries}
+use Rattle.listener.proofs.Valid.{picture-valid}
+use Rattle.train_telegram.specs.Readings.{Shows}
+use Rattle.signals.specs.Signals.{updateOf}
+use Rattle.signals.specs.declared.Signals.{Signals}
+use Rattle.signals.specs.declared.Answer.the-variants as Train
+use Rattle.signals.proofs.History.{shown-from}
+use Rattle.signals.proofs.Promises as train-promises
+use Rattle.claims.specs.Demand2.{Codes, AsDocument01Says, ReadBack, Valid, Demand2}
+
+missed-or-accepted : Train.Missed ≡ Train.Accepted → ⊥
+missed-or-accepted e = let z : _≡_ {A = ℕ} 0 1 = cc in absurd (omega arith)
+
+-- ---- writing and reading
+
+-- what is written of a desk codes its telegram
+written-codes : (desk : Desk) (packet : ℕ) (buffer : List ℕ) → Made desk → writeVerdict (telegramOf desk packet) buffer ≡ Accepted
+    → Codes (λ c. c) (written (telegramOf desk packet) buffer) (telegramOf desk packet)
+unfolding telegramOf
+written-codes desk packet buffer made accepted =
+    let t = telegramOf desk packet in
+    given (accepted-asked t buffer accepted)
+    (λ (low, high, long).
+    subst⁻¹ (λ bytes. Codes (λ c. c) bytes t) (accepted-written t buffer accepted)
+    (record {
+      long = length-bytes t;
+      packet = packet-on t high;
+      step = step-on t (packet-sendable (made-sound made) packet low high .step-below);
+      places = coded-on t;
+    }))
+
+-- what is read is what the bytes code
+read-codes : (bytes : List ℕ) → readOf bytes .verdict ≡ Accepted → Codes settled bytes (readOf bytes .telegram)
+unfolding meant
+read-codes bytes accepted =
+    let s = reading-accepted bytes .0 accepted in
+    subst⁻¹ (Codes settled bytes) (accepted-means bytes accepted)
+    (record {
+      long = length-read bytes s;
+      packet = refl;
+      step = refl;
+      places = λ k below. sym (ap codedOf (slot-meant bytes k below) ∙ coded-back (codedAt bytes k) (slot-read bytes s k below));
+    })
+
+-- an accepted call had a telegram, and the record shows it
+call-shows : (signals : Signals) (telegram : List ℕ) (present : Bool) → updateOf signals present telegram .answer ≡ Train.Accepted
+    → Shows (updateOf signals present telegram .signals .states) telegram
+call-shows signals telegram true accepted = train-promises.accepted-shows signals telegram accepted
+call-shows signals telegram false accepted = absurd (missed-or-accepted (sym (ap (λ u. u .answer) (train-promises.absent-misses signals telegram)) ∙ accepted))
+
+coded : AsDocument01Says
+coded =
+    record {
+      written = λ κs (desk, (packet, (buffer, _))) verdict lasts p made accepted.
+          subst⁻¹ (λ bytes. Codes (λ c. c) bytes (telegramOf desk packet)) (p .1) (written-codes desk packet (buffer .now) made (sym (p .0) ∙ accepted));
+      read = λ κs (bytes, _) reading lasts p. subst⁻¹ (λ r. r .verdict ≡ Accepted → Codes settled (bytes .now) (r .telegram)) p (read-codes (bytes .now));
+      distances = λ κs (word, _) distance lasts p. subst⁻¹ (λ d. word < 0x10000 → InRange d × (distanceWord d ≡ word)) p (word-said word);
+      signals = λ κs (signals, (present, (telegram, _))) updated lasts p. subst⁻¹ (λ u. u .answer ≡ Train.Accepted → Shows (u .signals .states) (telegram .now)) p (call-shows signals (telegram .now) present);
+    }
+
+-- what was written of a desk is read as it was
+read-written : (desk : Desk) (packet : ℕ) (buffer : List ℕ) → Made desk → writeVerdict (telegramOf desk packet) buffer ≡ Accepted
+    → readOf (written (telegramOf desk packet) buffer) ≡ record { verdict = Accepted; telegram = telegramOf desk packet }
+unfolding telegramOf
+read-written desk packet buffer made accepted =
+    given (accepted-asked (telegramOf desk packet) buffer accepted)
+    (λ (low, high, long). ap readOf (accepted-written (telegramOf desk packet) buffer accepted) ∙ packet-read (made-sound made) packet low high)
+
+-- what was read is written again
+written-again : (bytes buffer : List ℕ) → Bytes bytes → readOf bytes .verdict ≡ Accepted → length buffer ≡ 26
+    → (i : ℕ) → i < 26 → getD (written (readOf bytes .telegram) buffer) i 0 ≡ cond (isIdle bytes i) 0 (getD bytes i 0)
+written-again bytes buffer fits accepted long i below =
+    let t = readOf bytes .telegram in
+    let sendable = accepted-sendable bytes fits accepted in
+    ap (λ l. getD l i 0) (packet-fills t buffer (sendable .packet-from) (sendable .packet-to) long ∙ ap bytesOf (accepted-means bytes accepted))
+    ∙ write-again bytes fits (reading-accepted bytes .0 accepted) i below
+
+read-back : ReadBack
+unfolding telegramOf
+read-back =
+    record {
+      packets = λ κs (desk, (packet, (buffer, _))) verdict lasts p made accepted κs' (bytes, _) reading lasts' q same.
+          q ∙ (ap readOf (same ∙ p .1) ∙ read-written desk packet (buffer .now) made (sym (p .0) ∙ accepted));
+      table = λ κs (desk, _) table lasts p i below. slot-carried (tableOf desk) i below .1 ∙ ap (λ t. tableSlot t i) (sym p);
+      again = λ κs (bytes, _) reading lasts p fits accepted κs' (telegram, (buffer, _)) verdict lasts' q same long i below.
+          ap (λ l. getD l i 0) (q .1 ∙ ap (λ t. written t (buffer .now)) (same ∙ ap (λ r. r .telegram) p))
+          ∙ written-again (bytes .now) (buffer .now) fits (sym (ap (λ r. r .verdict) p) ∙ accepted) long i below;
+    }
+
+-- ---- what is shown
+
+valid : Valid
+valid =
+    record {
+      read = λ κs (bytes, _) reading lasts p. subst⁻¹ (λ r. (k : ℕ) → Held (slotOn (r .telegram) k)) p (never-invalid (bytes .now));
+      picture = picture-valid carries;
+      signals = shown-from;
+    }
+
+pub demand2 : Demand2
+demand2 = record { coded = coded; read-back = read-back; valid = valid }

@@ -1,0 +1,86 @@
+-- Demand 2. The user's words:
+--
+--   "Conditions, written and read, and signals, read, are coded as SUBSET-119 issue 4.0.0 and our fleet binding in document 01 say.
+--   Reading a written table gives that table. An invalid code never shows as a valid state."
+--
+-- It is said of the contracts of the functions that write and read: whatever such a function is handed, each outcome that its contract
+-- allows is as told below; where one function is handed what another gave, of both their outcomes. What the codings are, document 01
+-- says and specs/ of `kinds`, `condition`, `telegram`, `train_codes` and `train_telegram` say after it. proofs/Demand2.antt proves it.
+use Prim.Native.Nat.{ℕ, _+_, _/_, _%_, _<_}
+use mathlib.Core.Path.{_≡_}
+use mathlib.Core.Logic.{_⊎_}
+use mathlib.Core.Bool.{cond}
+use mathlib.Core.List.{List}
+use lib.ListN.{length, getD}
+use Rattle.kit.specs.Bytes.{Bytes}
+use Rattle.kit.specs.Contracts.{Promised}
+use Rattle.wire.specs.Distances.{InRange, distanceWord}
+use Rattle.wire.specs.declared.verdicts.Verdict.the-variants.{Accepted}
+use Rattle.condition.specs.Slots.{Held, codedOf, settled}
+use Rattle.condition.specs.declared.slots.Coded.{Coded}
+use Rattle.telegram.specs.Sendable.{slotOn, isIdle}
+use Rattle.telegram.specs.Tables.{tableSlot}
+use Rattle.telegram.specs.Telegrams.{packetIn, stepIn, codedAt}
+use Rattle.telegram.specs.declared.Telegram.{Telegram}
+use Rattle.desk.specs.Desks.{Made, telegramOf}
+use Rattle.listener.specs.Listeners.{carries, heardAll}
+use Rattle.train_telegram.specs.Readings.{Shows}
+use Rattle.train_telegram.specs.States.{silent}
+use Rattle.signals.specs.Histories.{Call, updatedAll, LastAccepted}
+use Rattle.signals.specs.declared.Answer.the-variants as Train
+use Rattle.wire.proofs.distance_of as distance_of
+use Rattle.telegram_writer.proofs.write as write-telegram
+use Rattle.telegram_reader.proofs.read as read
+use Rattle.desk_writer.proofs.table_of as table_of
+use Rattle.desk_writer.proofs.write as write
+use Rattle.signals.proofs.Signals.update as update
+
+-- ---- "Conditions, written and read, and signals, read, are coded as SUBSET-119 issue 4.0.0 and our fleet binding in document 01 say."
+
+-- T-02, T-03: 26 bytes code a telegram: its packet number in the top three bits, its step number in the low thirteen, and in each of the
+-- four places what its slot there is coded as (K-01 to K-05). `taken` is as what number, type and words are taken.
+pub record Codes (taken : Coded → Coded) (bytes : List ℕ) (t : Telegram) : Type 0 where
+  pub long : length bytes ≡ 26
+  pub packet : packetIn bytes ≡ t .packet
+  pub step : stepIn bytes ≡ t .step
+  pub places : (k : ℕ) → k < 4 → taken (codedAt bytes k) ≡ codedOf (slotOn t k)
+
+pub record AsDocument01Says : Type 0 where
+  -- M-2a: what a desk writes codes its telegram
+  pub written : Promised write.ended write.Reads.Learnt (λ κs (desk, (packet, (buffer, _))) verdict (_, (_, (after, _))). Made desk → verdict ≡ Accepted → Codes (λ c. c) after (telegramOf desk packet))
+  -- M-2b: what is read from bytes is the telegram that they code, a second word that is not considered taken as zero (K-11)
+  pub read : Promised read.ended read.Reads.Learnt (λ κs (bytes, _) reading lasts. reading .verdict ≡ Accepted → Codes settled (bytes .now) (reading .telegram))
+  -- K-06, K-07: a word is metres from -32,767 to 32,767 or no value, and each of these is one word
+  pub distances : Promised distance_of.ended distance_of.Reads.Learnt (λ κs (word, _) distance lasts. word < 0x10000 → InRange distance × (distanceWord distance ≡ word))
+  -- M-2c: each signal has the state whose code stands in its own bits
+  pub signals : Promised update.ended update.Reads.Learnt (λ κs (signals, (present, (telegram, _))) updated lasts. updated .answer ≡ Train.Accepted → Shows (updated .signals .states) (telegram .now))
+
+-- ---- "Reading a written table gives that table."
+
+pub record ReadBack : Type 0 where
+  -- M-2d: what a desk wrote is read as it was, in each of the five packets
+  pub packets : Promised write.ended write.Reads.Learnt (λ κs (desk, (packet, (buffer, _))) verdict (_, (_, (after, _))). Made desk → verdict ≡ Accepted
+      → Promised read.ended read.Reads.Learnt (λ κs (bytes, _) reading lasts. bytes .now ≡ after → reading ≡ record { verdict = Accepted; telegram = telegramOf desk packet }))
+  -- T-04: and they carry the table: slot i is place i % 4 of packet 3 + i / 4
+  pub table : Promised table_of.ended table_of.Reads.Learnt (λ κs (desk, _) table lasts. (i : ℕ) → i < 20 → slotOn (telegramOf desk (3 + i / 4)) (i % 4) ≡ tableSlot table i)
+  -- K-12: what was read and is written again has the same bytes, but for those of a second word that is not considered, which are zero
+  pub again : Promised read.ended read.Reads.Learnt (λ κs (bytes, _) reading lasts. Bytes (bytes .now) → reading .verdict ≡ Accepted
+      → Promised write-telegram.ended write-telegram.Reads.Learnt (λ κs (telegram, (buffer, _)) verdict (_, (after, _)). telegram ≡ reading .telegram → length (buffer .now) ≡ 26
+      → (i : ℕ) → i < 26 → getD after i 0 ≡ cond (isIdle (bytes .now) i) 0 (getD (bytes .now) i 0)))
+
+-- ---- "An invalid code never shows as a valid state."
+
+pub record Valid : Type 0 where
+  -- M-2e: whatever the bytes, a slot that is read has a type, a country, a voltage and a limit of the table of conditions
+  pub read : Promised read.ended read.Reads.Learnt (λ κs (bytes, _) reading lasts. (k : ℕ) → Held (slotOn (reading .telegram) k))
+  -- M-2e: and so has each slot of the picture, whatever was heard
+  pub picture : (telegrams : List (List ℕ)) (i : ℕ) → Held (tableSlot (heardAll carries telegrams .picture) i)
+  -- M-2e, S-12: whatever the calls were, the signals are silent, or each has the state whose code the last accepted telegram has for it
+  pub signals : (calls : List Call) → (updatedAll calls .states ≡ silent) ⊎ ((t : List ℕ) × LastAccepted calls t × Shows (updatedAll calls .states) t)
+
+-- ---- the demand
+
+pub record Demand2 : Type 0 where
+  pub coded : AsDocument01Says
+  pub read-back : ReadBack
+  pub valid : Valid

@@ -1,0 +1,6 @@
+pub mod Conditions
+pub mod Desk
+pub mod Listener
+pub mod Listing
+pub mod Train
+pub mod Wire

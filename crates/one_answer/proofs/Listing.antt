@@ -1,0 +1,95 @@
+-- One answer of the listing, and those that other languages call: each contract admits one (C-04).
+use mathlib.Core.Path.{refl, ap}
+use Rattle.kit.proofs.Cases.{given}
+use Rattle.kit.specs.Contracts.{OneAnswer}
+use Rattle.kit.proofs.Contracts.{agree, agree-poured}
+use Rattle.listing_words.proofs as listing-words
+use Rattle.listing_lines.proofs as listing-lines
+use Rattle.listing_reader.proofs as listing-reader
+use Rattle.listing_tables.proofs as listing-tables
+use Rattle.lister.proofs as lister
+use Rattle.listing.proofs as listing
+use Rattle.exports.proofs as exports
+
+-- ---- listing_words
+
+pub listing-words-put-number : OneAnswer listing-words.put_number.ended listing-words.put_number.Reads.Learnt
+listing-words-put-number κs handed answer other lasts others p q = given (agree-poured p q) (λ (place, bytes). (place, ap (λ b. (tt, (tt, (b, (tt, tt))))) bytes))
+
+pub listing-words-put-distance : OneAnswer listing-words.put_distance.ended listing-words.put_distance.Reads.Learnt
+listing-words-put-distance κs handed answer other lasts others p q = given (agree-poured p q) (λ (place, bytes). (place, ap (λ b. (tt, (b, (tt, tt)))) bytes))
+
+pub listing-words-put-second : OneAnswer listing-words.put_second.ended listing-words.put_second.Reads.Learnt
+listing-words-put-second κs handed answer other lasts others p q = given (agree-poured p q) (λ (place, bytes). (place, ap (λ b. (tt, (b, (tt, tt)))) bytes))
+
+pub listing-words-put-mark : OneAnswer listing-words.put_mark.ended listing-words.put_mark.Reads.Learnt
+listing-words-put-mark κs handed answer other lasts others p q = given (agree-poured p q) (λ (place, bytes). (place, ap (λ b. (tt, (b, (tt, tt)))) bytes))
+
+-- ---- listing_lines
+
+pub listing-lines-put-header : OneAnswer listing-lines.put_header.ended listing-lines.put_header.Reads.Learnt
+listing-lines-put-header κs handed answer other lasts others p q = given (agree-poured p q) (λ (place, bytes). (place, ap (λ b. (b, (tt, tt))) bytes))
+
+pub listing-lines-put-table-line : OneAnswer listing-lines.put_table_line.ended listing-lines.put_table_line.Reads.Learnt
+listing-lines-put-table-line κs handed answer other lasts others p q = given (agree-poured p q) (λ (place, bytes). (place, ap (λ b. (tt, (tt, (tt, (b, (tt, tt)))))) bytes))
+
+pub listing-lines-put-entry : OneAnswer listing-lines.put_entry.ended listing-lines.put_entry.Reads.Learnt
+listing-lines-put-entry κs handed answer other lasts others p q = given (agree-poured p q) (λ (place, bytes). (place, ap (λ b. (tt, (tt, (tt, (b, (tt, tt)))))) bytes))
+
+pub listing-lines-put-refused : OneAnswer listing-lines.put_refused.ended listing-lines.put_refused.Reads.Learnt
+listing-lines-put-refused κs handed answer other lasts others p q = given (agree-poured p q) (λ (place, bytes). (place, ap (λ b. (tt, (b, (tt, tt)))) bytes))
+
+pub listing-lines-put-end : OneAnswer listing-lines.put_end.ended listing-lines.put_end.Reads.Learnt
+listing-lines-put-end κs handed answer other lasts others p q = given (agree-poured p q) (λ (place, bytes). (place, ap (λ b. (tt, (b, (tt, tt)))) bytes))
+
+-- ---- listing_reader
+
+pub listing-reader-word-of : OneAnswer listing-reader.word_of.ended listing-reader.word_of.Reads.Learnt
+listing-reader-word-of κs handed answer other lasts others p q = (agree p q, refl)
+
+pub listing-reader-code-of : OneAnswer listing-reader.code_of.ended listing-reader.code_of.Reads.Learnt
+listing-reader-code-of κs handed answer other lasts others p q = (agree p q, refl)
+
+-- ---- listing_tables
+
+pub listing-tables-put-heard : OneAnswer listing-tables.put_heard.ended listing-tables.put_heard.Reads.Learnt
+listing-tables-put-heard κs handed answer other lasts others p q = given (agree-poured p q) (λ (place, bytes). (place, ap (λ b. (tt, (b, (tt, tt)))) bytes))
+
+pub listing-tables-tables-of : OneAnswer listing-tables.tables_of.ended listing-tables.tables_of.Reads.Learnt
+listing-tables-tables-of κs handed answer other lasts others p q = (agree p q, refl)
+
+-- ---- lister
+
+pub lister-begun : OneAnswer lister.Lister.begun.ended lister.Lister.begun.Reads.Learnt
+lister-begun κs handed answer other lasts others p q = (agree p q, refl)
+
+pub lister-take : OneAnswer lister.Lister.take.ended lister.Lister.take.Reads.Learnt
+lister-take κs handed answer other lasts others p q =
+    let put = agree-poured (p .1) (q .1) in
+    let next = agree (p .0) (q .0) in
+    ((λ i. record { lister = next i; at = put .0 i }), ap (λ bytes. (tt, (tt, (bytes, (tt, tt))))) (put .1))
+
+-- ---- listing
+
+pub listing-finish : OneAnswer listing.finish.ended listing.finish.Reads.Learnt
+listing-finish κs handed answer other lasts others p q = given (agree-poured p q) (λ (place, bytes). (place, ap (λ b. (tt, (b, (tt, tt)))) bytes))
+
+pub listing-list : OneAnswer listing.list.ended listing.list.Reads.Learnt
+listing-list κs handed answer other lasts others p q = given (agree-poured p q) (λ (place, bytes). (place, ap (λ b. (tt, (b, tt))) bytes))
+
+-- ---- exports
+
+pub exports-bravolith-list : OneAnswer exports.bravolith_list.ended exports.bravolith_list.Reads.Learnt
+exports-bravolith-list κs handed answer other lasts others p q = given (agree-poured p q) (λ (place, bytes). (place, ap (λ b. (tt, (b, tt))) bytes))
+
+pub exports-bravolith-run : OneAnswer exports.bravolith_run.ended exports.bravolith_run.Reads.Learnt
+exports-bravolith-run κs handed answer other lasts others p q = given (agree-poured p q) (λ (place, bytes). (place, ap (λ b. (tt, (b, tt))) bytes))
+
+pub exports-bravolith-run-lines : OneAnswer exports.bravolith_run_lines.ended exports.bravolith_run_lines.Reads.Learnt
+exports-bravolith-run-lines κs handed answer other lasts others p q = given (agree-poured p q) (λ (place, bytes). (place, ap (λ b. (tt, (b, tt))) bytes))
+
+pub exports-bravolith-signals : OneAnswer exports.bravolith_signals.ended exports.bravolith_signals.Reads.Learnt
+exports-bravolith-signals κs handed answer other lasts others p q = given (agree-poured p q) (λ (place, bytes). (place, ap (λ b. (tt, (b, tt))) bytes))
+
+pub exports-bravolith-word : OneAnswer exports.bravolith_word.ended exports.bravolith_word.Reads.Learnt
+exports-bravolith-word κs handed answer other lasts others p q = (agree p q, refl)
