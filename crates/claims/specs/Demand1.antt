@@ -3,9 +3,9 @@
 --   "Every list, telegram, buffer and packet number gets a defined answer. Bad input is refused under the number in document 01; a
 --   refused call changes no buffer, and of the states only what document 01 names."
 --
--- It is said of the contracts of the functions that take a list, a telegram, a buffer or a packet number: whatever such a function is
--- handed, each outcome that its contract allows is as told below. The rows are those of document 01's table, in its order: `listRows`,
--- `writeRows`, `readRows`, `hearRows` and `trainRows`. proofs/Demand1.antt proves it.
+-- It is said of the contracts of the functions that take a list, a telegram, a buffer or a packet number (Functions.antt): whatever such
+-- a function is handed, each outcome that its contract allows is as told below. The rows are those of document 01's table, in its order:
+-- `listRows`, `writeRows`, `readRows`, `hearRows` and `trainRows`. proofs/Demand1.antt proves it.
 use Prim.Native.Nat.{ℕ}
 use mathlib.Core.Path.{_≡_}
 use mathlib.Core.Logic.{_↔_}
@@ -15,7 +15,7 @@ use lib.ListN.{length}
 use Rattle.hand.specs.Sets.{begun}
 use Rattle.signals.specs.Signals.{missedBy}
 use Rattle.kit.specs.Asserted as Asserted
-use Rattle.kit.specs.Contracts.{OneAnswer, Promised}
+use Rattle.kit.specs.Contracts.{OneAnswer}
 use Rattle.kit.specs.Ladder.{Decides}
 use Rattle.wire.specs.declared.verdicts.Verdict.the-variants.{Refused}
 use Rattle.telegram.specs.Telegrams.{readRows, writeRows}
@@ -30,6 +30,7 @@ use Rattle.telegram_reader.proofs.read as read
 use Rattle.listener.proofs.Listener.hear as hear
 use Rattle.signals.proofs.Signals.update as update
 use Rattle.signals_in_place.proofs.update as update-lent
+use Rattle.claims.specs.Functions.{OfRead, OfAccept, OfWrite, OfHear, OfUpdate, OfUpdateLent}
 
 -- R-23: a refusal is given when its row holds and nothing earlier does, and never else
 abbrev pub RefusedBy : {Answer : Type 0} → List (Bool × ℕ) → (ℕ → Answer) → Answer → Type 0
@@ -41,49 +42,49 @@ pub record Lists : Type 0 where
   -- M-1a: there is one answer and one next desk
   pub defined : OneAnswer accept.ended accept.Reads.Learnt
   -- M-1d, R-01 to R-08, R-18: a list is refused under the number of document 01
-  pub refused : Promised accept.ended accept.Reads.Learnt (λ κs (desk, (list, _)) answer lasts. RefusedBy (listRows (desk .places) (list .now)) Refused (answer .verdict))
+  pub refused : OfAccept (λ desk list answer. RefusedBy (listRows (desk .places) list) Refused (answer .verdict))
   -- M-1f, D-18, R-24: a refused list changes nothing of the desk
-  pub unchanged : Promised accept.ended accept.Reads.Learnt (λ κs (desk, (list, _)) answer lasts. (number : ℕ) → answer .verdict ≡ Refused number → answer .desk ≡ desk)
+  pub unchanged : OfAccept (λ desk list answer. (number : ℕ) → answer .verdict ≡ Refused number → answer .desk ≡ desk)
 
 -- ---- "telegram": `telegram_reader::read(bytes)`, and `Listener::hear(listener, telegram)`
 
 pub record Telegrams : Type 0 where
   -- M-1b, M-1d, R-10 to R-14, R-20: reading
   pub read-defined : OneAnswer read.ended read.Reads.Learnt
-  pub read-refused : Promised read.ended read.Reads.Learnt (λ κs (bytes, _) answer lasts. RefusedBy (readRows (bytes .now)) Refused (answer .verdict))
+  pub read-refused : OfRead (λ bytes reading. RefusedBy (readRows bytes) Refused (reading .verdict))
   -- M-1b, M-1d, R-10 to R-15, R-20, R-21: hearing
   pub defined : OneAnswer hear.ended hear.Reads.Learnt
-  pub refused : Promised hear.ended hear.Reads.Learnt (λ κs (listener, (telegram, _)) heard lasts. RefusedBy (hearRows listener (telegram .now)) Heard.Refused (heard .answer))
+  pub refused : OfHear (λ listener telegram heard. RefusedBy (hearRows listener telegram) Heard.Refused (heard .answer))
   -- M-1f, L-10, L-11, R-24: 15 drops the set in hand, and no other refusal changes the listener
-  pub dropped : Promised hear.ended hear.Reads.Learnt (λ κs (listener, (telegram, _)) heard lasts. heard .answer ≡ Heard.Refused 15 → heard .listener ≡ holding listener (begun 0))
-  pub unchanged : Promised hear.ended hear.Reads.Learnt (λ κs (listener, (telegram, _)) heard lasts. (number : ℕ) → (number ≡ 15 → ⊥) → heard .answer ≡ Heard.Refused number → heard .listener ≡ listener)
+  pub dropped : OfHear (λ listener telegram heard. heard .answer ≡ Heard.Refused 15 → heard .listener ≡ holding listener (begun 0))
+  pub unchanged : OfHear (λ listener telegram heard. (number : ℕ) → (number ≡ 15 → ⊥) → heard .answer ≡ Heard.Refused number → heard .listener ≡ listener)
 
--- ---- and those from the train: `Signals::update(signals, present, telegram)`, and the same of a record that is lent
+-- ---- and those from the train: `Signals::update(signals, present, telegram)`
 
 pub record TrainTelegrams : Type 0 where
   -- M-1b, M-1d, R-10, R-16, R-17, R-22: a telegram is refused under the number of document 01; S-14: a call with none is not refused
   pub defined : OneAnswer update.ended update.Reads.Learnt
-  pub refused : Promised update.ended update.Reads.Learnt (λ κs (signals, (present, (telegram, _))) updated lasts. present ≡ true → RefusedBy (trainRows (telegram .now)) Train.Refused (updated .answer))
-  pub absent : Promised update.ended update.Reads.Learnt (λ κs (signals, (present, (telegram, _))) updated lasts. present ≡ false → updated .answer ≡ Train.Missed)
+  pub refused : OfUpdate (λ signals present telegram updated. present ≡ true → RefusedBy (trainRows telegram) Train.Refused (updated .answer))
+  pub absent : OfUpdate (λ signals present telegram updated. present ≡ false → updated .answer ≡ Train.Missed)
   -- M-1f, S-13, S-20, R-24: a refused one is a miss, and changes nothing else
-  pub missed : Promised update.ended update.Reads.Learnt (λ κs (signals, (present, (telegram, _))) updated lasts. (number : ℕ) → updated .answer ≡ Train.Refused number → updated .signals ≡ missedBy signals)
+  pub missed : OfUpdate (λ signals present telegram updated. (number : ℕ) → updated .answer ≡ Train.Refused number → updated .signals ≡ missedBy signals)
 
--- S-01: where it is: `signals_in_place::update(held, present, telegram)`
+-- S-01: the same where the record is: `signals_in_place::update(held, present, telegram)`
 pub record TrainTelegramsLent : Type 2 where
   pub defined : Asserted.OneAnswer update-lent.ended (λ M 𝓤. update-lent.clauses 𝓤)
-  pub refused : Asserted.Promised update-lent.ended (λ M 𝓤. update-lent.clauses 𝓤) (λ κs (held, (present, (telegram, _))) answer lasts. present ≡ true → RefusedBy (trainRows (telegram .now)) Train.Refused answer)
-  pub absent : Asserted.Promised update-lent.ended (λ M 𝓤. update-lent.clauses 𝓤) (λ κs (held, (present, (telegram, _))) answer lasts. present ≡ false → answer ≡ Train.Missed)
-  pub missed : Asserted.Promised update-lent.ended (λ M 𝓤. update-lent.clauses 𝓤) (λ κs (held, (present, (telegram, _))) answer (after, _). (number : ℕ) → answer ≡ Train.Refused number → after ≡ missedBy (held .now))
+  pub refused : OfUpdateLent (λ signals present telegram answer after. present ≡ true → RefusedBy (trainRows telegram) Train.Refused answer)
+  pub absent : OfUpdateLent (λ signals present telegram answer after. present ≡ false → answer ≡ Train.Missed)
+  pub missed : OfUpdateLent (λ signals present telegram answer after. (number : ℕ) → answer ≡ Train.Refused number → after ≡ missedBy signals)
 
 -- ---- "buffer and packet number": `desk_writer::write(desk, packet, buffer)`
 
 pub record Buffers : Type 0 where
   -- M-1c: there is one verdict, and one last value of the buffer
   pub defined : OneAnswer write.ended write.Reads.Learnt
-  -- M-1d, R-09, R-10, R-19
-  pub refused : Promised write.ended write.Reads.Learnt (λ κs (desk, (packet, (buffer, _))) verdict lasts. RefusedBy (writeRows packet (length (buffer .now))) Refused verdict)
+  -- M-1d, R-09, R-10, R-19: it is refused under the number of document 01
+  pub refused : OfWrite (λ desk packet buffer verdict after. RefusedBy (writeRows packet (length buffer)) Refused verdict)
   -- M-1e, R-25: a refused call changes no byte
-  pub unchanged : Promised write.ended write.Reads.Learnt (λ κs (desk, (packet, (buffer, _))) verdict (_, (_, (after, _))). (number : ℕ) → verdict ≡ Refused number → after ≡ buffer .now)
+  pub unchanged : OfWrite (λ desk packet buffer verdict after. (number : ℕ) → verdict ≡ Refused number → after ≡ buffer)
 
 -- ---- the demand
 

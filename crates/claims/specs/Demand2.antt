@@ -3,8 +3,8 @@
 --   "Conditions, written and read, and signals, read, are coded as SUBSET-119 issue 4.0.0 and our fleet binding in document 01 say.
 --   Reading a written table gives that table. An invalid code never shows as a valid state."
 --
--- It is said of the contracts of the functions that write and read: whatever such a function is handed, each outcome that its contract
--- allows is as told below; where one function is handed what another gave, of both their outcomes. What the codings are, document 01
+-- It is said of the contracts of the functions that write and read (Functions.antt): whatever such a function is handed, each outcome
+-- that its contract allows is as told below; where one function is handed what another gave, of both their outcomes. What the codings are, document 01
 -- says and specs/ of `kinds`, `condition`, `telegram`, `train_codes` and `train_telegram` say after it. proofs/Demand2.antt proves it.
 use Prim.Native.Nat.{ℕ, _+_, _/_, _%_, _<_}
 use mathlib.Core.Path.{_≡_}
@@ -13,7 +13,6 @@ use mathlib.Core.Bool.{cond}
 use mathlib.Core.List.{List}
 use lib.ListN.{length, getD}
 use Rattle.kit.specs.Bytes.{Bytes}
-use Rattle.kit.specs.Contracts.{Promised}
 use Rattle.wire.specs.Distances.{InRange, distanceWord}
 use Rattle.wire.specs.declared.verdicts.Verdict.the-variants.{Accepted}
 use Rattle.condition.specs.Slots.{Held, codedOf, settled}
@@ -28,12 +27,7 @@ use Rattle.train_telegram.specs.Readings.{Shows}
 use Rattle.train_telegram.specs.States.{silent}
 use Rattle.signals.specs.Histories.{Call, updatedAll, LastAccepted}
 use Rattle.signals.specs.declared.Answer.the-variants as Train
-use Rattle.wire.proofs.distance_of as distance_of
-use Rattle.telegram_writer.proofs.write as write-telegram
-use Rattle.telegram_reader.proofs.read as read
-use Rattle.desk_writer.proofs.table_of as table_of
-use Rattle.desk_writer.proofs.write as write
-use Rattle.signals.proofs.Signals.update as update
+use Rattle.claims.specs.Functions.{OfDistance, OfRead, OfWriteTelegram, OfTable, OfWrite, OfUpdate}
 
 -- ---- "Conditions, written and read, and signals, read, are coded as SUBSET-119 issue 4.0.0 and our fleet binding in document 01 say."
 
@@ -47,32 +41,32 @@ pub record Codes (taken : Coded → Coded) (bytes : List ℕ) (t : Telegram) : T
 
 pub record AsDocument01Says : Type 0 where
   -- M-2a: what a desk writes codes its telegram
-  pub written : Promised write.ended write.Reads.Learnt (λ κs (desk, (packet, (buffer, _))) verdict (_, (_, (after, _))). Made desk → verdict ≡ Accepted → Codes (λ c. c) after (telegramOf desk packet))
+  pub written : OfWrite (λ desk packet buffer verdict after. Made desk → verdict ≡ Accepted → Codes (λ c. c) after (telegramOf desk packet))
   -- M-2b: what is read from bytes is the telegram that they code, a second word that is not considered taken as zero (K-11)
-  pub read : Promised read.ended read.Reads.Learnt (λ κs (bytes, _) reading lasts. reading .verdict ≡ Accepted → Codes settled (bytes .now) (reading .telegram))
-  -- K-06, K-07: a word is metres from -32,767 to 32,767 or no value, and each of these is one word
-  pub distances : Promised distance_of.ended distance_of.Reads.Learnt (λ κs (word, _) distance lasts. word < 0x10000 → InRange distance × (distanceWord distance ≡ word))
+  pub read : OfRead (λ bytes reading. reading .verdict ≡ Accepted → Codes settled bytes (reading .telegram))
+  -- K-06, K-07: a word of 16 bits is metres from -32,767 to 32,767 or no value, and each of these is one word
+  pub distances : OfDistance (λ word distance. word < 0x10000 → InRange distance × (distanceWord distance ≡ word))
   -- M-2c: each signal has the state whose code stands in its own bits
-  pub signals : Promised update.ended update.Reads.Learnt (λ κs (signals, (present, (telegram, _))) updated lasts. updated .answer ≡ Train.Accepted → Shows (updated .signals .states) (telegram .now))
+  pub signals : OfUpdate (λ signals present telegram updated. updated .answer ≡ Train.Accepted → Shows (updated .signals .states) telegram)
 
 -- ---- "Reading a written table gives that table."
 
 pub record ReadBack : Type 0 where
   -- M-2d: what a desk wrote is read as it was, in each of the five packets
-  pub packets : Promised write.ended write.Reads.Learnt (λ κs (desk, (packet, (buffer, _))) verdict (_, (_, (after, _))). Made desk → verdict ≡ Accepted
-      → Promised read.ended read.Reads.Learnt (λ κs (bytes, _) reading lasts. bytes .now ≡ after → reading ≡ record { verdict = Accepted; telegram = telegramOf desk packet }))
+  pub packets : OfWrite (λ desk packet buffer verdict after. Made desk → verdict ≡ Accepted
+      → OfRead (λ bytes reading. bytes ≡ after → reading ≡ record { verdict = Accepted; telegram = telegramOf desk packet }))
   -- T-04: and they carry the table: slot i is place i % 4 of packet 3 + i / 4
-  pub table : Promised table_of.ended table_of.Reads.Learnt (λ κs (desk, _) table lasts. (i : ℕ) → i < 20 → slotOn (telegramOf desk (3 + i / 4)) (i % 4) ≡ tableSlot table i)
+  pub table : OfTable (λ desk table. (i : ℕ) → i < 20 → slotOn (telegramOf desk (3 + i / 4)) (i % 4) ≡ tableSlot table i)
   -- K-12: what was read and is written again has the same bytes, but for those of a second word that is not considered, which are zero
-  pub again : Promised read.ended read.Reads.Learnt (λ κs (bytes, _) reading lasts. Bytes (bytes .now) → reading .verdict ≡ Accepted
-      → Promised write-telegram.ended write-telegram.Reads.Learnt (λ κs (telegram, (buffer, _)) verdict (_, (after, _)). telegram ≡ reading .telegram → length (buffer .now) ≡ 26
-      → (i : ℕ) → i < 26 → getD after i 0 ≡ cond (isIdle (bytes .now) i) 0 (getD (bytes .now) i 0)))
+  pub again : OfRead (λ bytes reading. Bytes bytes → reading .verdict ≡ Accepted
+      → OfWriteTelegram (λ telegram buffer verdict after. telegram ≡ reading .telegram → length buffer ≡ 26
+      → (i : ℕ) → i < 26 → getD after i 0 ≡ cond (isIdle bytes i) 0 (getD bytes i 0)))
 
 -- ---- "An invalid code never shows as a valid state."
 
 pub record Valid : Type 0 where
   -- M-2e: whatever the bytes, a slot that is read has a type, a country, a voltage and a limit of the table of conditions
-  pub read : Promised read.ended read.Reads.Learnt (λ κs (bytes, _) reading lasts. (k : ℕ) → Held (slotOn (reading .telegram) k))
+  pub read : OfRead (λ bytes reading. (k : ℕ) → Held (slotOn (reading .telegram) k))
   -- M-2e: and so has each slot of the picture, whatever was heard
   pub picture : (telegrams : List (List ℕ)) (i : ℕ) → Held (tableSlot (heardAll carries telegrams .picture) i)
   -- M-2e, S-12: whatever the calls were, the signals are silent, or each has the state whose code the last accepted telegram has for it
