@@ -71,6 +71,16 @@ module _ (rest limit : ℕ) (enough : limit ≤ rest) (few : rest ≤ 11) {Messa
 pub bytes-back : (buffer : List ℕ) → length buffer ≡ 26 → ReadsBack (bytesIn buffer)
 bytes-back buffer long t sendable u = ap readOf (packet-fills t buffer (sendable .packet-from) (sendable .packet-to) long) ∙ read-again t sendable
 
--- DEMAND 3
-pub demand-3 : Demand3
-demand-3 calls buffer long = claimed eight carries (omega arith) (omega arith) (bytesIn buffer) (bytes-back buffer long) calls
+pub demand3 : Demand3
+demand3 =
+    record {
+      functions =
+          record {
+            fresh-desk = λ κs handed desk lasts p. p;
+            accepts = λ κs handed answer lasts p. p;
+            writes = λ κs handed verdict lasts p. p .1;
+            fresh-listener = λ κs handed listener lasts p. p;
+            hears = λ κs handed heard lasts p. p;
+          };
+      claim = λ calls buffer long. claimed eight carries (omega arith) (omega arith) (bytesIn buffer) (bytes-back buffer long) calls;
+    }

@@ -24,7 +24,7 @@ use Rattle.telegram.specs.Sendable.{Sendable}
 use Rattle.telegram.specs.Telegrams.{readOf, written}
 use Rattle.telegram.specs.declared.Reading.{Reading}
 use Rattle.telegram.specs.declared.Telegram.{Telegram}
-use Rattle.desk.specs.Desks.{rest as eight, telegramOf}
+use Rattle.desk.specs.Desks.{rest as eight, freshWith, acceptOf, telegramOf}
 use Rattle.picture.specs.Pictures.{countOf}
 use Rattle.listener.specs.Listeners.{carries, freshListener, hearOf, markAt}
 use Rattle.listener.specs.declared.Answer.{Answer}
@@ -33,6 +33,7 @@ use Rattle.last_step.specs.declared.Last.{Last}
 use Rattle.last_step.specs.declared.Last.the-variants.{Never, Step}
 use Rattle.listener.specs.declared.Listener.{Listener}
 use Rattle.claims.specs.Calls.{stepsMade, deskOf, tableIn, orderIn, StoodFrom}
+use Rattle.claims.specs.Functions.{OfFreshDesk, OfAccept, OfWrite, OfFreshListener, OfHear}
 use Rattle.claims.specs.Hearings.{Item, sent, spoilt, wasHeard, isWhole, wholes, NoneAfter, Near}
 
 -- M-2: a binding: how a telegram is written as a message and read from it, and which telegrams it can carry
@@ -145,8 +146,17 @@ module _ (rest limit : ℕ) {Message : Type 0} (binding : Binding Message) (call
 abbrev pub bytesIn : List ℕ → Binding (List ℕ)
 bytesIn buffer = record { write = λ t. written t buffer; read = readOf; Carries = λ t. Unit }
 
--- M-3: of every sequence of lists handed to a fresh desk, whatever the buffer of 26 bytes held, and of everything heard so
-abbrev pub Demand3 : Type 0
-Demand3 =
-    (calls : List (List ℕ)) (buffer : List ℕ) → length buffer ≡ 26 → (heard : List (Item (List ℕ)))
-    → Premises eight carries (bytesIn buffer) calls heard → Claim eight carries (bytesIn buffer) calls heard
+-- C-08: the desk, the writer and the listener of this page are the public functions: by its contract each answers so, and a fresh end is
+-- what its maker gives
+pub record TheFunctions : Type 0 where
+  pub fresh-desk : OfFreshDesk (λ desk. desk ≡ freshWith eight)
+  pub accepts : OfAccept (λ desk list answer. answer ≡ acceptOf eight desk list)
+  pub writes : OfWrite (λ desk packet buffer verdict after. after ≡ bytesIn buffer .write (telegramOf desk packet))
+  pub fresh-listener : OfFreshListener (λ listener. listener ≡ freshListener)
+  pub hears : OfHear (λ listener telegram heard. heard ≡ hearOf carries listener (bytesIn telegram .read telegram))
+
+pub record Demand3 : Type 0 where
+  pub functions : TheFunctions
+  -- M-3: of every sequence of lists handed to a fresh desk, whatever the buffer of 26 bytes held, and of everything heard so
+  pub claim : (calls : List (List ℕ)) (buffer : List ℕ) → length buffer ≡ 26 → (heard : List (Item (List ℕ)))
+      → Premises eight carries (bytesIn buffer) calls heard → Claim eight carries (bytesIn buffer) calls heard

@@ -1,4 +1,4 @@
--- The public functions that demands 1 and 2 speak of. A line here says of a function: whatever it is handed, each outcome that its
+-- The public functions that the demands speak of. A line here says of a function: whatever it is handed, each outcome that its
 -- contract allows is such. A slice that is lent stands here as its bytes, one that may be changed as its bytes before and after.
 use Prim.Native.Nat.{ℕ}
 use mathlib.Core.Bool.{Bool}
@@ -23,6 +23,8 @@ use Rattle.telegram_writer.proofs.write as write-telegram
 use Rattle.desk.proofs.Desk.accept as accept
 use Rattle.desk_writer.proofs.table_of as table_of
 use Rattle.desk_writer.proofs.write as write
+use Rattle.desk.proofs.Desk.fresh as fresh-desk
+use Rattle.listener.proofs.Listener.fresh as fresh-listener
 use Rattle.listener.proofs.Listener.hear as hear
 use Rattle.signals.proofs.Signals.update as update
 use Rattle.signals_in_place.proofs.update as update-lent
@@ -39,6 +41,10 @@ OfRead Such = Promised read.ended read.Reads.Learnt (λ κs (bytes, _) reading l
 abbrev pub OfWriteTelegram : (Telegram → List ℕ → Verdict → List ℕ → Type 0) → Type 0
 OfWriteTelegram Such = Promised write-telegram.ended write-telegram.Reads.Learnt (λ κs (telegram, (buffer, _)) verdict (_, (after, _)). Such telegram (buffer .now) verdict after)
 
+-- `Desk::fresh()`
+abbrev pub OfFreshDesk : (Desk → Type 0) → Type 0
+OfFreshDesk Such = Promised fresh-desk.ended fresh-desk.Reads.Learnt (λ κs _ desk lasts. Such desk)
+
 -- `Desk::accept(desk, list)`
 abbrev pub OfAccept : (Desk → List ℕ → Answer → Type 0) → Type 0
 OfAccept Such = Promised accept.ended accept.Reads.Learnt (λ κs (desk, (list, _)) answer lasts. Such desk (list .now) answer)
@@ -50,6 +56,10 @@ OfTable Such = Promised table_of.ended table_of.Reads.Learnt (λ κs (desk, _) t
 -- `desk_writer::write(desk, packet, buffer)`
 abbrev pub OfWrite : (Desk → ℕ → List ℕ → Verdict → List ℕ → Type 0) → Type 0
 OfWrite Such = Promised write.ended write.Reads.Learnt (λ κs (desk, (packet, (buffer, _))) verdict (_, (_, (after, _))). Such desk packet (buffer .now) verdict after)
+
+-- `Listener::fresh()`
+abbrev pub OfFreshListener : (Listener → Type 0) → Type 0
+OfFreshListener Such = Promised fresh-listener.ended fresh-listener.Reads.Learnt (λ κs _ listener lasts. Such listener)
 
 -- `Listener::hear(listener, telegram)`
 abbrev pub OfHear : (Listener → List ℕ → Heard → Type 0) → Type 0
