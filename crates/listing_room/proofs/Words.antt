@@ -15,7 +15,8 @@ use Rattle.wire.specs.Distances.{noValue, distanceOf}
 use Rattle.condition.specs.Slots.{HeldBody}
 use Rattle.condition.specs.declared.slots.Body.{Body}
 use Rattle.condition.specs.declared.slots.Body.the-variants.{Empty, Area, Traction, Current}
-use Rattle.listing_words.specs.Words.{numberThen, distanceWord, stroke, systemWord, limitWord, secondWord, markWord}
+use Rattle.listing_words.specs.Words.{numberThen, distanceWord, markWord}
+use Rattle.listing_seconds.specs.Seconds.{stroke, systemWord, limitWord, secondWord}
 
 -- a number and the byte after it
 pub number-short : (k number after : ℕ) → number < 10 ^ k → 1 ≤ k → length (numberThen number after) ≤ k + 1

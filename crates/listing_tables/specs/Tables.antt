@@ -10,7 +10,8 @@ use Rattle.listener.specs.Listeners.{markAt}
 use Rattle.listener.specs.declared.Answer.{Answer}
 use Rattle.listener.specs.declared.Answer.the-variants.{Refused, Repeat, Held, Taken}
 use Rattle.listener.specs.declared.Heard.{Heard}
-use Rattle.listing_lines.specs.Lines.{tableLine, entryLine, refusedLine}
+use Rattle.listing_lines.specs.Lines.{tableLine, refusedLine}
+use Rattle.listing_entries.specs.Entries.{entryLine}
 
 -- G-04: the line of slot i of a picture, with its mark
 abbrev pub entryAt : List Slot → List Bool → ℕ → List ℕ

@@ -16,7 +16,7 @@ fn put_picture(picture: [Slot; 20], marks: [bool; 20], listing: &mut [u8], at: u
     while i < SLOTS {
         let slot = picture[i];
         let carried = marks[i];
-        next = listing_lines::put_entry(i, slot, carried, listing, next);
+        next = listing_entries::put_entry(i, slot, carried, listing, next);
         i += 1;
     }
     next

@@ -1,13 +1,9 @@
-// The words of a listing, put into a lent buffer: numbers, distances, what the second word of a condition says, and its mark.
-use condition::Body;
+// The words of a listing, put into a lent buffer: numbers, distances and the mark of a condition.
 use wire::Distance;
-use wire::NO_VALUE;
 ghost use Rattle.kit.specs.Put.{Poured};
-ghost use Rattle.listing_words.specs.Words.{numberThen, distanceWord, secondWord, systemWord, limitWord, markWord};
+ghost use Rattle.listing_words.specs.Words.{numberThen, distanceWord, markWord};
 
 const MINUS: u8 = b'-';
-
-const STROKE: u8 = b'/';
 
 pub const NEW: [u8; 3] = *b"new";
 
@@ -33,43 +29,6 @@ pub fn put_distance(word: u16, line: &mut [u8], at: usize) -> usize
             let next = text::put_byte(line, at, MINUS);
             text::put_decimal(line, next, metres as u64)
         }
-    }
-}
-
-// `voltage/country`, or `-` where the change distance has no value.
-fn put_system(change: u16, country: u16, voltage: u8, line: &mut [u8], at: usize) -> usize
-    ensures { λ r. ⌜ Poured (now (line .entry)) at (systemWord change country voltage) (now (line .exit)) r ⌝ }
-{
-    if change == NO_VALUE {
-        return text::put_byte(line, at, MINUS);
-    }
-    let next = put_number(voltage as u64, STROKE, line, at);
-    text::put_decimal(line, next, country as u64)
-}
-
-// The limit, or `-` where the change distance has no value.
-fn put_limit(change: u16, limit: u16, line: &mut [u8], at: usize) -> usize
-    ensures { λ r. ⌜ Poured (now (line .entry)) at (limitWord change limit) (now (line .exit)) r ⌝ }
-{
-    if change == NO_VALUE {
-        return text::put_byte(line, at, MINUS);
-    }
-    text::put_decimal(line, at, limit as u64)
-}
-
-// What the second word of a condition says.
-pub fn put_second(body: Body, line: &mut [u8], at: usize) -> usize
-    ensures { λ r. ⌜ Poured (now (line .entry)) at (secondWord body) (now (line .exit)) r ⌝ }
-{
-    match body {
-        Body::Empty => text::put_words(line, at, b""),
-        Body::Area { exit, .. } => put_distance(exit, line, at),
-        Body::Traction {
-            change,
-            country,
-            voltage,
-        } => put_system(change, country, voltage, line, at),
-        Body::Current { change, limit } => put_limit(change, limit, line, at),
     }
 }
 

@@ -1,10 +1,10 @@
 -- `put_second`: each kind of body has its word.
 use mathlib.Core.Path.{ap}
 use Rattle.kit.proofs.Put.{poured-as}
-use Rattle.listing_words.specs.Words.{secondWord}
+use Rattle.listing_seconds.specs.Seconds.{secondWord}
 use borrow.Author.Needs.{needs}
-use Rattle.listing_words.proofs.put_second.Statement.{statement}
-use Rattle.listing_words.proofs.put_second.Tie as tie
+use Rattle.listing_seconds.proofs.put_second.Statement.{statement}
+use Rattle.listing_seconds.proofs.put_second.Tie as tie
 
 enum-told : tie.Need-enum-told
 enum-told c = search needs

@@ -2,10 +2,10 @@
 use mathlib.Core.Path.{sym, _∙_}
 use borrow.Author.Tests.{not-true, not-false}
 use Rattle.kit.proofs.Put.{poured-as, poured-then}
-use Rattle.listing_lines.proofs.Entries.{entry-empty, entry-occupied}
+use Rattle.listing_entries.proofs.Entries.{entry-empty, entry-occupied}
 use borrow.Author.Needs.{needs}
-use Rattle.listing_lines.proofs.put_entry.Statement.{statement}
-use Rattle.listing_lines.proofs.put_entry.Tie as tie
+use Rattle.listing_entries.proofs.put_entry.Statement.{statement}
+use Rattle.listing_entries.proofs.put_entry.Tie as tie
 
 is-occupied-requires : tie.Need-is-occupied-requires
 is-occupied-requires c κs = search needs

@@ -3,10 +3,10 @@ use mathlib.Core.Path.{ap, sym}
 use Rattle.kit.proofs.Put.{poured-as, poured-then}
 use Rattle.condition.specs.declared.slots.Coded.{Coded}
 use Rattle.listing_words.specs.Words.{blank, numberThen}
-use Rattle.listing_lines.specs.Lines.{entryNumbers}
+use Rattle.listing_entries.specs.Entries.{entryNumbers}
 use borrow.Author.Needs.{needs}
-use Rattle.listing_lines.proofs.put_numbers.Statement.{statement}
-use Rattle.listing_lines.proofs.put_numbers.Tie as tie
+use Rattle.listing_entries.proofs.put_numbers.Statement.{statement}
+use Rattle.listing_entries.proofs.put_numbers.Tie as tie
 
 coded-of-requires : tie.Need-coded-of-requires
 coded-of-requires c κs = search needs

@@ -6,7 +6,7 @@ use mathlib.Core.List.{[], _∷_, _++_}
 use Rattle.condition.specs.Slots.{isOccupied}
 use Rattle.condition.specs.declared.slots.Slot.{Slot}
 use Rattle.listing_words.specs.Words.{lineFeed, markWord}
-use Rattle.listing_lines.specs.Lines.{entryNumbers, entryWords, entryLine}
+use Rattle.listing_entries.specs.Entries.{entryNumbers, entryWords, entryLine}
 
 pub entry-empty : (place : ℕ) (slot : Slot) (carried : Bool) → isOccupied slot ≡ false → entryLine place slot carried ≡ []
 unfolding entryLine

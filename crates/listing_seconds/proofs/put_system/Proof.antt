@@ -1,10 +1,10 @@
 -- `put_system`: the test of the change distance decides.
 use Rattle.kit.proofs.Put.{poured-as, poured-then}
 use borrow.Author.Tests.{eq-eqb, ne-eqb}
-use Rattle.listing_words.specs.Words.{systemWord}
+use Rattle.listing_seconds.specs.Seconds.{systemWord}
 use borrow.Author.Needs.{needs}
-use Rattle.listing_words.proofs.put_system.Statement.{statement}
-use Rattle.listing_words.proofs.put_system.Tie as tie
+use Rattle.listing_seconds.proofs.put_system.Statement.{statement}
+use Rattle.listing_seconds.proofs.put_system.Tie as tie
 
 put-byte-requires : tie.Need-put-byte-requires
 put-byte-requires c κs = search needs

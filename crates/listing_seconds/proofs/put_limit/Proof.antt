@@ -1,10 +1,10 @@
 -- `put_limit`: the test of the change distance decides.
 use Rattle.kit.proofs.Put.{poured-as}
 use borrow.Author.Tests.{eq-eqb, ne-eqb}
-use Rattle.listing_words.specs.Words.{limitWord}
+use Rattle.listing_seconds.specs.Seconds.{limitWord}
 use borrow.Author.Needs.{needs}
-use Rattle.listing_words.proofs.put_limit.Statement.{statement}
-use Rattle.listing_words.proofs.put_limit.Tie as tie
+use Rattle.listing_seconds.proofs.put_limit.Statement.{statement}
+use Rattle.listing_seconds.proofs.put_limit.Tie as tie
 
 put-byte-requires : tie.Need-put-byte-requires
 put-byte-requires c κs = search needs
