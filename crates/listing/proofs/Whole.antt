@@ -34,6 +34,6 @@ printed-all {lister} k (piece ∷ more) =
     ∙ (ap (λ (l : List ℕ). l ++ endOf (takeOf (takeOf lister piece) rest)) (sym (lines-of-then lister piece rest))
     ∙ ap (λ (s : Lister). linesOf lister (piece ++ rest) ++ endOf s) (sym (take-then lister piece rest))))
 
--- G-01 to G-10: the header and what is printed for the pieces is the listing of the whole
+-- G-01 to G-09: the header and what is printed for the pieces is the listing of the whole
 pub whatever-the-pieces : (pieces : List (List ℕ)) → length (together pieces) ≤ mostTables → headerLine ++ printed begun pieces ≡ listing (together pieces)
 whatever-the-pieces pieces room = ap (λ (l : List ℕ). headerLine ++ l) (printed-all begun-kept pieces) ∙ in-one (together pieces) room

@@ -6,7 +6,7 @@
 -- that the listener holds was read from bytes, after any pieces.
 use Prim.Native.Nat.{ℕ, zero, suc, _+_, _*_, _/_, _≤_}
 use mathlib.Core.Path.{_≡_, refl, sym, ap, _∙_, subst}
-use mathlib.Core.List.{List, [], _∷_}
+use mathlib.Core.List.{List, [], _∷_, _++_}
 use lib.Dec.{eqb}
 use lib.ListN.{length, take, drop, length-append}
 use native.Mathlib.Omega.{arith}
@@ -18,7 +18,6 @@ use Rattle.kit.proofs.Put.{poured-put}
 use Rattle.condition.specs.Slots.{emptySlot}
 use Rattle.telegram.specs.Telegrams.{readOf}
 use Rattle.telegram.proofs.Valid.{never-invalid}
-use Rattle.listener.specs.Listeners.{carries}
 use Rattle.listener.specs.declared.Listener.{Listener}
 use Rattle.listener.proofs.Every.{Every, fresh-every, hear-every}
 use Rattle.listing_room.proofs.Sizes.{number-byte, hear-small}
@@ -26,9 +25,12 @@ use Rattle.listing_lines.specs.Lines.{headerLine, endLine}
 use Rattle.listing_room.proofs.Lines.{header-long, refused-short, end-short}
 use Rattle.listing_tables.specs.Tables.{heardLines}
 use Rattle.listing_room.proofs.Tables.{Narrow, heard-short}
+use Rattle.listener.specs.Listeners.{carries, freshListener}
 use Rattle.lister.specs.Hearings.{cut, telegrams, tailOf, heard, listenerAfter, linesFor}
-use Rattle.lister.specs.Pieces.{mostTables, begun, joined, keeping, takeOf, linesOf, Made}
-use Rattle.listing.specs.Listings.{tailLine, endOf}
+use Rattle.lister.specs.Pieces.{mostTables, begun, joined, keeping, takeOf, linesOf, Made, made, taken}
+use Rattle.listing.specs.Listings.{tailLine, endOf, listing}
+use Rattle.listing.proofs.Whole.{in-one}
+use Rattle.lister.proofs.Recording.{recording-lines}
 use Rattle.lister.specs.declared.Lister.{Lister}
 use Rattle.lister.proofs.Kept.{Kept, begun-kept, take-kept, made-kept, joined-kept}
 
@@ -146,3 +148,22 @@ end-of-short lister few =
 -- G-08, G-09: the end has room in 64 bytes, whatever the pieces were
 pub end-room : {lister : Lister} → Made lister → length (endOf lister) ≤ 64
 end-room {lister} m = given (made-kept m) (λ (bytes, k). omega (arith, end-of-short lister (k .few)))
+
+-- G-01 to G-09: a whole listing has at most 639 bytes for each telegram that the recording has whole, and 49 more
+pub listing-short : (recording : List ℕ) → Bytes recording → length recording ≤ mostTables → length (listing recording) ≤ 639 * (length recording / 26) + 49
+unfolding telegrams
+listing-short recording fits counted =
+    let lines = linesOf begun recording in
+    let end = endOf (takeOf begun recording) in
+    given (made-kept (taken made recording))
+    (λ (bytes, k).
+    omega (
+      arith,
+      ap length (in-one recording counted),
+      length-append headerLine (lines ++ end),
+      length-append lines end,
+      header-long,
+      ap length (recording-lines recording),
+      cut-short (length recording / 26) recording fits freshListener (fresh-every Narrow empty-narrow),
+      end-of-short (takeOf begun recording) (k .few),
+    ))

@@ -1,1 +1,2 @@
 pub mod Numerals
+pub mod ReadBack
