@@ -33,7 +33,8 @@ isFilled (Current change limit) = true
 abbrev pub isOccupied : Slot → Bool
 isOccupied x = isFilled (x .body)
 
--- K-01 to K-04, K-11: the body that a type and two words make; bits 13..4 are the country, bits 3..0 the voltage
+-- K-01 to K-04, K-11: the body that a type and two words make; bits 13..4 are the country, whatever the voltage (K-09), bits 3..0 the
+-- voltage
 unfoldable pub bodyOf : ℕ → ℕ → ℕ → Body
 bodyOf kind first second =
     cond (eqb kind 4) (Traction first (secondHeld kind first second / 16 % 1024) (secondHeld kind first second % 16))

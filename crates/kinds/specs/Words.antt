@@ -22,7 +22,7 @@ currentWord second = leb second 1000 || eqb second 1023
 unfoldable pub isConsidered : ℕ → ℕ → Bool
 isConsidered kind first = not (eqb first noValue && (eqb kind 4 || eqb kind 5))
 
--- R-06, K-01, K-03, K-04, K-10: the second word is allowed for the type
+-- R-06, K-01, K-03, K-04, K-10: the second word is allowed for the type; K-08: where it is an exit every word is, whatever the entry
 unfoldable pub secondAllowed : ℕ → ℕ → ℕ → Bool
 secondAllowed kind first second =
     not (isConsidered kind first)

@@ -19,7 +19,7 @@ use Rattle.train_telegram.specs.declared.Reading.{Reading}
 use Rattle.train_telegram.specs.declared.states.National.{National}
 use Rattle.train_telegram.specs.declared.states.States.{States}
 
--- S-12, C-12: the answer, and the states that are said; beside a refusal every signal is silent
+-- W-05, S-12, C-12: the answer, and the states that are said; beside a refusal every signal is silent
 unfoldable pub readOf : List ℕ → Reading
 readOf t = record { verdict = verdictOf (trainRefusal t); states = cond (eqb (trainRefusal t) 0) (statesOf t) silent }
 
