@@ -1,13 +1,15 @@
 -- What the desk promises, of every desk that a making and earlier calls gave, and of every list: the base's instances, at a rest of
 -- eight, of what Seating, Stepping, Tracing, Resting and Tables prove over any rest from 1 to 11.
 use Prim.Native.Nat.{ℕ, _≤_}
-use mathlib.Core.Path.{_≡_, sym, ap, _∙_}
+use mathlib.Core.Path.{_≡_, refl, sym, ap, _∙_}
 use mathlib.Core.Logic.{_↔_}
 use mathlib.Core.Bool.{true, false}
-use mathlib.Core.List.{List, _∷_, _++_, map}
+use mathlib.Core.List.{List, [], _∷_, _++_, map}
 use lib.ListN.{length, length-map}
 use native.Mathlib.Omega.{arith}
-use Rattle.kit.specs.Ladder.{Decides, Silent}
+use Rattle.kit.specs.Each.{each}
+use Rattle.kit.specs.Ladder.{ladder, Decides, Silent}
+use Rattle.kit.specs.Loops.{scan}
 use Rattle.kit.specs.Member.{member}
 use Rattle.kit.proofs.Cases.{given}
 use Rattle.kit.proofs.Ladder.{ladder-decides, decides-positive}
@@ -15,7 +17,7 @@ use Rattle.wire.proofs.Answers.{refused-when, accepted-when}
 use Rattle.condition.specs.Slots.{codedOf}
 use Rattle.wire.specs.declared.verdicts.Verdict.the-variants.{Accepted, Refused}
 use Rattle.telegram.specs.Telegrams.{readOf, bytesOf}
-use Rattle.order_list.specs.Lists.{orderAt, stands, orderNamed}
+use Rattle.order_list.specs.Lists.{orderAt, listedAt, stands, orderNamed}
 use Rattle.places.specs.Places.{placeOf, placeAt, isLive}
 use Rattle.orders.specs.Orders.{listRows, listRefusal}
 use Rattle.orders.proofs.Lists.{fair}
@@ -103,6 +105,18 @@ module _ {desk : Desk} (made : Made desk) where
         let e = ap (λ r. placeAt (r .desk .places) i) (accepts rest desk list accepted) in
         given (keeps rest rest (omega arith) (omega arith) desk (made-sound made) list (fair (desk .places) list accepted) i p listed)
         (λ s. (ap (λ x. x .order) e ∙ s .order, ap (λ x. x .slot .number) e ∙ s .number, ap (λ x. codedOf (x .slot) .kind) e ∙ s .kind))
+
+  -- D-17: an empty list is accepted, and ends everything
+  empty-unrefused : listRefusal (desk .places) [] ≡ 0
+  unfolding listRows each ladder
+  empty-unrefused = refl
+
+  pub empty-accepted : acceptOf rest desk [] .verdict ≡ Accepted
+  empty-accepted = ap (λ (r : Answer). r .verdict) (accepts rest desk [] empty-unrefused)
+
+  pub empty-ends : (order : ℕ) → 1 ≤ order → isLive (acceptOf rest desk [] .desk .places) order ≡ false
+  unfolding listedAt scan
+  empty-ends order p = live-exactly [] empty-unrefused order p
 
 -- ---- over several steps, of the accepted lists, the newest first
 
