@@ -1,16 +1,20 @@
 -- `put_telegram`: head and four slots, one after another, fill the buffer from its start to its end.
-use mathlib.Core.Path.{sym, ap}
-use Rattle.kit.specs.Bytes.{wordBytes}
 use Rattle.kit.specs.Each.{each}
-use Rattle.kit.proofs.Put.{put-then, put-as, put-whole}
+use Rattle.kit.proofs.Put.{put-then, put-whole}
 use Rattle.condition.specs.Slots.{sixOf}
 use Rattle.telegram.specs.Telegrams.{bytesOf}
 use borrow.Author.Needs.{needs}
 use Rattle.telegram_writer.proofs.put_telegram.Statement.{statement}
 use Rattle.telegram_writer.proofs.put_telegram.Tie as tie
 
-head-of-requires : tie.Need-head-of-requires
-head-of-requires c κs = search needs
+cast-head : tie.Need-cast-head
+cast-head c = search needs
+
+mul-head : tie.Need-mul-head
+mul-head c = search needs
+
+add-head : tie.Need-add-head
+add-head c = search needs
 
 put-word-requires : tie.Need-put-word-requires
 put-word-requires c κs = search needs
@@ -54,8 +58,8 @@ returns c =
     let second = third .before .before .before .before .before in
     let first = second .before .before .before .before .before in
     let head = first .before .before .before .before .before in
-    put-whole (head .before .before .before .before .before .pre)
-    (put-then (put-as (ap wordBytes (sym (head .before .head-of .ensures))) (head .put-word .ensures))
+    put-whole (head .before .before .before .before .before .before .pre)
+    (put-then (head .put-word .ensures)
     (put-then (first .put-slot .ensures)
     (put-then (second .put-slot2 .ensures)
     (put-then (third .put-slot3 .ensures) (fourth .put-slot4 .ensures)))))
@@ -64,7 +68,9 @@ pub put-telegram-spec : {M : Type 1} → statement M
 put-telegram-spec =
     tie.close
     (tie.spec
-    head-of-requires
+    cast-head
+    mul-head
+    add-head
     put-word-requires
     array-copy-out-put-slot
     put-slot-requires
