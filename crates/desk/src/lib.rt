@@ -1,7 +1,5 @@
 // The desk: twenty places, the numbers that ended lately, the last number given and the step number. Each accepted list makes one
-// step: orders that are absent leave (crate leaving), new ones arrive (arriving).
-mod arriving;
-
+// step: orders that are absent leave (crate leaving), new ones arrive (crate arriving).
 use arriving::Seats;
 use places::Place;
 use resting::Ended;
@@ -80,7 +78,7 @@ fn advance(desk: Desk, list: &[u8]) -> Desk
     let n = (list.len() / order_list::LENGTH) as u8;
     let ended = leaving::ended_numbers(list, n, step, before, were);
     let kept = leaving::kept_places(list, n, before);
-    let seats = arriving::seat_all(kept, desk.last, ended, step, list);
+    let seats = arriving::seat_all(kept, desk.last, ended, Desk::REST, step, list, n);
     let places = seats.places;
     Desk {
         places,

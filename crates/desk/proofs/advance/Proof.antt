@@ -1,4 +1,4 @@
--- `advance`: who ends, who stays and who is new, one after another; the desk was made, so there is room for all.
+-- `advance`: who ends, who stays and who is new, one after another.
 use Prim.Native.Nat.{ℕ, _<_, _≤_}
 use mathlib.Core.List.{List, map}
 use mathlib.Core.Path.{_≡_, refl}
@@ -6,17 +6,16 @@ use lib.ListN.{length}
 use borrow.Author.Needs.{needs}
 use Rattle.wire.specs.Steps.{steps}
 use Rattle.order_list.specs.Lists.{orderCount}
-use Rattle.orders.specs.Orders.{listRefusal}
 use Rattle.places.specs.declared.Place.{Place}
 use Rattle.orders.proofs.Lists.{fair-length}
 use Rattle.resting.specs.Rests.{isResting}
 use Rattle.resting.specs.declared.Ended.{Ended}
 use Rattle.desk.specs.declared.Desk.{Desk}
-use Rattle.desk.specs.declared.arriving.Seats.{Seats}
-use Rattle.desk.specs.Desks.{rest, Made}
-use Rattle.desk.specs.Steps.{nextStep, keptPlace, endedNumbers, seatedAll, stepOf}
-use Rattle.desk.specs.Rooms.{RoomForAll}
-use Rattle.desk.proofs.Making.{made-sound, room-made}
+use Rattle.arriving.specs.Arriving.{seatedAll}
+use Rattle.arriving.specs.declared.Seats.{Seats}
+use Rattle.desk.specs.Desks.{rest}
+use Rattle.desk.specs.Steps.{nextStep, keptPlace, endedNumbers, stepOf}
+use Rattle.desk.proofs.Making.{made-sound}
 use Rattle.desk.proofs.advance.Statement.{statement}
 use Rattle.desk.proofs.advance.Tie as tie
 
@@ -24,9 +23,6 @@ module _ (desk : Desk) (list : List ℕ) (ended : List Ended) (kept : List Place
     (e : ended ≡ endedNumbers list (nextStep (desk .step)) (desk .places) (desk .ended)) (k : kept ≡ map (keptPlace list) (desk .places)) where
   abbrev start : Seats
   start = record { places = kept; last = desk .last }
-
-  room : Made desk → listRefusal (desk .places) list ≡ 0 → RoomForAll (isResting rest (nextStep (desk .step)) ended) list start (orderCount list)
-  room m z = rw (e, k) (room-made m list z)
 
   stepped : (seats : Seats) → seats ≡ seatedAll (isResting rest (nextStep (desk .step)) ended) list start (orderCount list)
       → record { places = seats .places; ended = ended; last = seats .last; step = nextStep (desk .step) } ≡ stepOf rest desk list
@@ -51,12 +47,7 @@ kept-places-requires : tie.Need-kept-places-requires
 kept-places-requires c κs = search needs
 
 seat-all-requires : tie.Need-seat-all-requires
-seat-all-requires c κs =
-    let start = c .before .before .before .before .before .before in
-    let a = start .args in (
-      fair-length (a .desk .places) (a .list .now) (start .pre .1),
-      room (a .desk) (a .list .now) _ _ (c .before .ended-numbers .ensures) (c .kept-places .ensures) (start .pre .0) (start .pre .1),
-    )
+seat-all-requires c κs = search needs
 
 returns : tie.Need-returns
 returns c =
