@@ -49,11 +49,13 @@ fn put_telegram(buffer: &mut [u8], telegram: Telegram)
 {
     let slots = telegram.slots;
     let head = (telegram.packet % 8) as u16 * STEPS + telegram.step % STEPS;
-    let first = put_word(buffer, 0, head);
-    let second = put_slot(buffer, first, slots[0]);
-    let third = put_slot(buffer, second, slots[1]);
-    let fourth = put_slot(buffer, third, slots[2]);
-    put_slot(buffer, fourth, slots[3]);
+    let mut at = put_word(buffer, 0, head);
+    let mut k: usize = 0;
+    while k < 4 {
+        let slot = slots[k];
+        at = put_slot(buffer, at, slot);
+        k += 1;
+    }
 }
 
 // The refusal of a packet number and a buffer's length, or 0.
