@@ -1,23 +1,19 @@
 -- A desk that a making and earlier calls gave is the desk of a run of accepted lists, and so it is sound (READINGS 3.4).
 use Prim.Native.Nat.{ℕ}
 use mathlib.Core.Path.{_≡_, refl, sym, ap, _∙_, subst}
-use mathlib.Core.List.{List, [], _∷_, map}
+use mathlib.Core.List.{List, [], _∷_}
 use lib.Dec.{eqb}
 use native.Mathlib.Omega.{arith}
 use borrow.Author.Tests.{eqb-true, eqb-false, ne-eqb}
 use Rattle.kit.proofs.Cases.{on}
 use Rattle.wire.proofs.Answers.{verdict-accepted, verdict-refused}
 use Rattle.wire.specs.declared.verdicts.Verdict.the-variants.{Accepted as accepted, Refused}
-use Rattle.order_list.specs.Lists.{orderCount}
 use Rattle.orders.specs.Orders.{listRefusal}
-use Rattle.orders.proofs.Lists.{fair}
-use Rattle.resting.specs.Rests.{isResting}
 use Rattle.desk.specs.declared.Desk.{Desk}
 use Rattle.desk.specs.Desks.{rest, acceptOf, Made, made, called}
 use Rattle.desk.specs.Runs.{run, Accepted}
-use Rattle.desk.specs.Steps.{nextStep, keptPlace, endedNumbers, stepOf}
-use Rattle.desk.specs.Rooms.{RoomForAll}
-use Rattle.desk.proofs.Stepping.{Sound, next-room}
+use Rattle.desk.specs.Steps.{stepOf}
+use Rattle.desk.proofs.Stepping.{Sound}
 use Rattle.desk.proofs.Tracing.{run-sound}
 
 module _ (figure : ℕ) (desk : Desk) (list : List ℕ) where
@@ -51,9 +47,3 @@ made-sound m = go (made-run m)
   where
     go : {desk : Desk} → (h : List (List ℕ)) × Accepted rest rest h × (desk ≡ run rest rest h) → Sound rest desk
     go (h, a, e) = subst (Sound rest) (sym e) (run-sound rest rest (omega arith) (omega arith) h a)
-
--- D-08: so every new order of an accepted list finds a free slot
-pub room-made : {desk : Desk} → Made desk → (list : List ℕ) → listRefusal (desk .places) list ≡ 0
-    → RoomForAll (isResting rest (nextStep (desk .step)) (endedNumbers list (nextStep (desk .step)) (desk .places) (desk .ended))) list
-    (record { places = map (keptPlace list) (desk .places); last = desk .last }) (orderCount list)
-room-made {desk} m list e = next-room rest rest (omega arith) (omega arith) desk (made-sound m) list (fair (desk .places) list e)

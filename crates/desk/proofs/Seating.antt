@@ -23,7 +23,7 @@ use Rattle.condition.specs.declared.slots.Coded.{Coded}
 use Rattle.condition.specs.declared.slots.Slot.{Slot}
 use Rattle.condition.proofs.Coding.{filled-silent, read-held, coded-back}
 use Rattle.order_list.specs.Lists.{stands, orderAt, orderCount, listedAt}
-use Rattle.places.specs.Places.{freePlace, placeAt, placeOf, isLive}
+use Rattle.places.specs.Places.{freePlace, placeAt, placeOf, lowestFree, isLive}
 use Rattle.order_list.specs.declared.Order.{Order}
 use Rattle.places.specs.declared.Place.{Place}
 use Rattle.order_list.proofs.Listed.{listed-there, listed-when}
@@ -32,9 +32,9 @@ use Rattle.orders.proofs.Lists.{Fair}
 use Rattle.numbers.specs.Numbers.{nextNumber}
 use Rattle.numbers.proofs.Search.{number-range, number-idle, number-rested}
 use Rattle.leaving.specs.Leaving.{bodyIn}
-use Rattle.desk.specs.Steps.{seated, seatedAll}
-use Rattle.desk.specs.Rooms.{RoomForAll}
-use Rattle.desk.specs.declared.arriving.Seats.{Seats}
+use Rattle.arriving.specs.Arriving.{seated, seatedAll}
+use Rattle.arriving.specs.declared.Seats.{Seats}
+use Rattle.arriving.proofs.Seated.{seated-live, seated-new, newPlace}
 
 -- no two places share what `of` says of them, but for 0
 abbrev pub Distinct : (Place → ℕ) → List Place → Type 0
@@ -152,26 +152,15 @@ module _ (places : List Place) (o : Orderly places) (new : Place) (named : 1 ≤
         held = λ i. taken-held i (here-or-there i);
       }
 
--- ---- one order placed
-
-pub seated-live : (resting : ℕ → Bool) (order : Order) (seats : Seats) → isLive (seats .places) (order .number) ≡ true → seated resting order seats ≡ seats
-unfolding seated
-seated-live resting order seats e = rw e refl
-
-abbrev pub newPlace : (ℕ → Bool) → Order → Seats → Place
-newPlace resting order seats =
-    record { order = order .number; slot = record { number = nextNumber resting (seats .places) (seats .last); body = bodyIn order } }
-
-pub seated-new : (resting : ℕ → Bool) (order : Order) (seats : Seats) → isLive (seats .places) (order .number) ≡ false
-    → seated resting order seats
-    ≡ record {
-      places = set (seats .places) (placeOf (seats .places) 0) (newPlace resting order seats);
-      last = nextNumber resting (seats .places) (seats .last);
-    }
-unfolding seated
-seated-new resting order seats e = rw e refl
-
 -- ---- all orders of a list placed
+
+-- D-08: an order that is not live finds a free slot
+abbrev pub Room : Order → Seats → Type 0
+Room order seats = isLive (seats .places) (order .number) ≡ false → lowestFree (seats .places) < slots
+
+-- D-08: each of the first n orders does, when its turn comes
+abbrev pub RoomForAll : (ℕ → Bool) → List ℕ → Seats → ℕ → Type 0
+RoomForAll resting list seats n = (j : ℕ) → j < n → Room (orderAt list j) (seatedAll resting list seats j)
 
 -- what a place is that a new order has taken
 pub record New (resting : ℕ → Bool) (list : List ℕ) (start : List Place) (i : ℕ) (place : Place) : Type 0 where

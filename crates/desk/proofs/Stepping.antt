@@ -24,12 +24,12 @@ use Rattle.resting.specs.Rests.{noneEnded, endedAt, isResting}
 use Rattle.resting.specs.declared.Ended.{Ended}
 use Rattle.resting.proofs.Rested.{covers-resting, resting-when}
 use Rattle.leaving.specs.Leaving.{bodyIn}
-use Rattle.desk.specs.Steps.{nextStep, keptPlace, endedNumbers, seatedAll, stepOf}
-use Rattle.desk.specs.Rooms.{RoomForAll}
+use Rattle.desk.specs.Steps.{nextStep, keptPlace, endedNumbers, stepOf}
+use Rattle.arriving.specs.Arriving.{seatedAll}
 use Rattle.desk.specs.declared.Desk.{Desk}
 use Rattle.leaving.proofs.Left.{kept-stays, entry-only, entry-ends, ended-long, ended-now, ended-before}
 use Rattle.desk.proofs.Endings.{kept-at}
-use Rattle.desk.proofs.Seating.{Orderly, inside, New, After, after, room-for-all}
+use Rattle.desk.proofs.Seating.{Orderly, inside, New, After, after, RoomForAll, room-for-all}
 use Rattle.desk.proofs.Staying.{Stayed, case, kept-orderly, kept-listed}
 
 -- what is true of a desk that was made (READINGS 3.4, d1 to d6): an entry of the ended numbers in row k, from 0, ended k steps ago

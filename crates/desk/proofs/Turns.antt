@@ -24,14 +24,15 @@ use Rattle.resting.specs.Rests.{isResting}
 use Rattle.numbers.specs.Numbers.{hasNumber, isPermitted, nextNumber, numberAfter}
 use Rattle.numbers.proofs.Search.{number-first, number-some}
 use Rattle.desk.specs.Runs.{run, Accepted, EndedAgo}
-use Rattle.desk.specs.Steps.{keptPlace, seated, seatedAll, stepOf, nextStep, endedNumbers}
-use Rattle.desk.specs.Rooms.{RoomForAll}
+use Rattle.desk.specs.Steps.{keptPlace, stepOf, nextStep, endedNumbers}
 use Rattle.desk.specs.declared.Desk.{Desk}
-use Rattle.desk.specs.declared.arriving.Seats.{Seats}
+use Rattle.arriving.specs.Arriving.{seated, seatedAll}
+use Rattle.arriving.specs.declared.Seats.{Seats}
+use Rattle.arriving.proofs.Seated.{newPlace, seated-live, seated-new}
 use Rattle.leaving.proofs.Left.{kept-stays}
 use Rattle.desk.proofs.Endings.{kept-at}
 use Rattle.desk.proofs.Resting.{resting-exactly}
-use Rattle.desk.proofs.Seating.{Orderly, newPlace, seated-live, seated-new}
+use Rattle.desk.proofs.Seating.{Orderly, RoomForAll}
 use Rattle.desk.proofs.Staying.{Stayed, case, kept-orderly}
 use Rattle.desk.proofs.Stepping.{Sound, next-room}
 use Rattle.desk.proofs.Tracing.{at, run-sound, rested, older}

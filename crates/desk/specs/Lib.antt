@@ -1,4 +1,3 @@
 pub mod Desks
-pub mod Rooms
 pub mod Runs
 pub mod Steps

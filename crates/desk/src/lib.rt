@@ -1,15 +1,10 @@
 // The desk: twenty places, the numbers that ended lately, the last number given and the step number. Each accepted list makes one
-// step: orders that are absent leave (crate leaving), new ones arrive (arriving).
-mod arriving;
-
-use arriving::Seats;
+// step: orders that are absent leave (crate leaving), new ones arrive (crate arriving).
 use places::Place;
 use resting::Ended;
 use wire::Verdict;
 ghost use mathlib.Core.Path.{_≡_};
-ghost use Rattle.orders.specs.Orders.{listRefusal};
 ghost use Rattle.desk.specs.Desks.{rest, freshDesk, acceptOf, Made};
-ghost use Rattle.desk.specs.Steps.{stepOf};
 
 // The ended numbers stand by the step in which they ended, the newest first, and within a step by slot.
 pub struct Desk {
@@ -54,38 +49,29 @@ impl Desk {
         requires { ⌜ Made self ⌝ }
         ensures { λ r. ⌜ r ≡ acceptOf rest self (now (list .entry)) ⌝ }
     {
-        let places = self.places;
-        let refusal = orders::refusal_of(places, list);
+        let before = self.places;
+        let refusal = orders::refusal_of(before, list);
         if refusal != 0 {
             return Answer {
                 verdict: Verdict::Refused(refusal),
                 desk: self,
             };
         }
+        let step = (self.step + 1) % Desk::STEPS;
+        let were = self.ended;
+        let n = (list.len() / order_list::LENGTH) as u8;
+        let ended = leaving::ended_numbers(list, n, step, before, were);
+        let kept = leaving::kept_places(list, n, before);
+        let seats = arriving::seat_all(kept, self.last, ended, Desk::REST, step, list, n);
+        let places = seats.places;
         Answer {
             verdict: Verdict::Accepted,
-            desk: advance(self, list),
+            desk: Desk {
+                places,
+                ended,
+                last: seats.last,
+                step,
+            },
         }
-    }
-}
-
-// The desk after an accepted list.
-fn advance(desk: Desk, list: &[u8]) -> Desk
-    requires { ⌜ Made desk × (listRefusal (desk .places) (now list) ≡ 0) ⌝ }
-    ensures { λ r. ⌜ r ≡ stepOf rest desk (now (list .entry)) ⌝ }
-{
-    let step = (desk.step + 1) % Desk::STEPS;
-    let before = desk.places;
-    let were = desk.ended;
-    let n = (list.len() / order_list::LENGTH) as u8;
-    let ended = leaving::ended_numbers(list, n, step, before, were);
-    let kept = leaving::kept_places(list, n, before);
-    let seats = arriving::seat_all(kept, desk.last, ended, step, list);
-    let places = seats.places;
-    Desk {
-        places,
-        ended,
-        last: seats.last,
-        step,
     }
 }

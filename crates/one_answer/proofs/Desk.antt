@@ -9,6 +9,7 @@ use Rattle.orders.proofs as orders
 use Rattle.resting.proofs as resting
 use Rattle.numbers.proofs as numbers
 use Rattle.leaving.proofs as leaving
+use Rattle.arriving.proofs as arriving
 use Rattle.desk.proofs as desk
 use Rattle.desk_writer.proofs as desk-writer
 use Rattle.desk_output.proofs as desk-output
@@ -55,6 +56,11 @@ leaving-kept-places κs handed answer other lasts others p q = (agree p q, refl)
 
 pub leaving-ended-numbers : OneAnswer leaving.ended_numbers.ended leaving.ended_numbers.Reads.Learnt
 leaving-ended-numbers κs handed answer other lasts others p q = (agree p q, refl)
+
+-- ---- arriving
+
+pub arriving-seat-all : OneAnswer arriving.seat_all.ended arriving.seat_all.Reads.Learnt
+arriving-seat-all κs handed answer other lasts others p q = (agree p q, refl)
 
 -- ---- desk
 

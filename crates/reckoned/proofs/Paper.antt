@@ -22,7 +22,8 @@ use Rattle.numbers.specs.Numbers.{hasNumber, nextNumber}
 use Rattle.desk.specs.Desks.{freshWith, acceptOf, tableOf}
 use Rattle.desk.specs.Runs.{run}
 use Rattle.leaving.specs.Leaving.{keptPlace, endedEntry, endedNumbers}
-use Rattle.desk.specs.Steps.{seated, seatedAll, stepOf}
+use Rattle.desk.specs.Steps.{stepOf}
+use Rattle.arriving.specs.Arriving.{seated, seatedAll}
 use Rattle.wire.specs.Verdicts.{verdictOf}
 use Rattle.train_codes.specs.Codes.{brakeOf}
 use Rattle.train_codes.specs.Refusals.{restSet, zeroBitSet, trainRows}

@@ -24,7 +24,8 @@ use Rattle.resting.specs.Rests.{noneEnded, restsBy, isResting}
 use Rattle.numbers.specs.Numbers.{hasNumber, nextNumber}
 use Rattle.desk.specs.Desks.{rest, freshWith, acceptOf, telegramOf as deskTelegram}
 use Rattle.leaving.specs.Leaving.{keptPlace, endedEntry, endedNumbers}
-use Rattle.desk.specs.Steps.{seated, seatedAll, stepOf}
+use Rattle.desk.specs.Steps.{stepOf}
+use Rattle.arriving.specs.Arriving.{seated, seatedAll}
 use Rattle.desk.specs.declared.Desk.{Desk}
 use Rattle.claims.specs.Calls.{deskAfter, accepted, stepsMade, upTo, deskOf}
 use Rattle.claims.specs.Demand3.{bytesIn, message, listenerAfter}

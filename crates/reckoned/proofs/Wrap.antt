@@ -20,7 +20,8 @@ use Rattle.numbers.specs.Numbers.{hasNumber, nextNumber}
 use Rattle.desk.specs.Desks.{rest, freshWith}
 use Rattle.desk.specs.Runs.{run}
 use Rattle.leaving.specs.Leaving.{keptPlace, endedEntry, endedNumbers}
-use Rattle.desk.specs.Steps.{seated, seatedAll, stepOf}
+use Rattle.desk.specs.Steps.{stepOf}
+use Rattle.arriving.specs.Arriving.{seated, seatedAll}
 use Rattle.desk.specs.declared.Desk.{Desk}
 use Rattle.reckoned.specs.Reckoned.{order, orders, wholly-new, empty, numbers, alone, before-the-wrap}
 

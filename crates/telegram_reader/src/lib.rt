@@ -10,9 +10,8 @@ use wire::Verdict;
 ghost use mathlib.Core.Path.{_≡_};
 ghost use Prim.Native.Nat.{_<_, _≤_};
 ghost use lib.ListN.{length};
-ghost use Rattle.kit.specs.Each.{each};
 ghost use Rattle.kit.specs.Ladder.{ladder};
-ghost use Rattle.telegram.specs.Telegrams.{headIn, codedAt, slotAt, takenBefore, takenRow, placeRows, readRefusal, telegramOf, readOf, blank};
+ghost use Rattle.telegram.specs.Telegrams.{codedAt, slotAt, takenBefore, placeRows, readRefusal, telegramOf, readOf};
 
 // The six bytes of place k, 0 to 3.
 fn coded_at(bytes: &[u8], k: usize) -> Coded
@@ -43,36 +42,33 @@ fn taken_before(bytes: &[u8], k: usize, number: u8) -> bool
     false
 }
 
-// Row 14 of place k: 14 where the number stands in a place below, or 0.
-fn taken_refusal(bytes: &[u8], k: usize, number: u8) -> u8
-    requires { ⌜ (length (now bytes) ≡ 26) × (k < 4) ⌝ }
-    ensures { λ r. ⌜ r ≡ ladder 0 (takenRow (now (bytes .entry)) k number) ⌝ }
-{
-    if number == 0 {
-        return 0;
-    }
-    if taken_before(bytes, k, number) {
-        return 14;
-    }
-    0
-}
-
-// The refusal of place k, or 0.
+// The refusal of place k, or 0: its own rows, and below them 14 where its number stands in an earlier place.
 fn place_refusal(bytes: &[u8], k: usize) -> u8
     requires { ⌜ (length (now bytes) ≡ 26) × (k < 4) ⌝ }
     ensures { λ r. ⌜ r ≡ ladder 0 (placeRows (now (bytes .entry)) k) ⌝ }
 {
     let coded = coded_at(bytes, k);
     let own = condition::refusal_of(coded);
-    let taken = taken_refusal(bytes, k, coded.number);
-    wire::above(own, taken)
+    let number = coded.number;
+    if number == 0 {
+        return own;
+    }
+    if taken_before(bytes, k, number) {
+        return wire::above(own, 14);
+    }
+    own
 }
 
-// The refusal of the first bad place, or 0.
-fn places_refusal(bytes: &[u8]) -> u8
-    requires { ⌜ length (now bytes) ≡ 26 ⌝ }
-    ensures { λ r. ⌜ r ≡ ladder 0 (each (placeRows (now (bytes .entry))) 0 4) ⌝ }
+// The refusal of a telegram, or 0: its length, its packet, and then the first bad place.
+fn refusal_of(bytes: &[u8]) -> u8
+    ensures { λ r. ⌜ r ≡ readRefusal (now (bytes .entry)) ⌝ }
 {
+    if bytes.len() != LENGTH {
+        return 10;
+    }
+    if wire::word_at(bytes, 0) / STEPS < FIRST_PACKET as u16 {
+        return 11;
+    }
     let mut k = 0;
     while k < 4 {
         let refusal = place_refusal(bytes, k);
@@ -82,27 +78,6 @@ fn places_refusal(bytes: &[u8]) -> u8
         k += 1;
     }
     0
-}
-
-// Bytes 0 and 1: packet number in the top three bits, step number in the low thirteen.
-fn head_of(bytes: &[u8]) -> u16
-    requires { ⌜ length (now bytes) ≡ 26 ⌝ }
-    ensures { λ r. ⌜ r ≡ headIn (now (bytes .entry)) ⌝ }
-{
-    wire::word(bytes[0], bytes[1])
-}
-
-// The refusal of a telegram, or 0.
-fn refusal_of(bytes: &[u8]) -> u8
-    ensures { λ r. ⌜ r ≡ readRefusal (now (bytes .entry)) ⌝ }
-{
-    if bytes.len() != LENGTH {
-        return 10;
-    }
-    if head_of(bytes) / STEPS < FIRST_PACKET as u16 {
-        return 11;
-    }
-    places_refusal(bytes)
 }
 
 // The slot of place k.
@@ -117,11 +92,12 @@ fn slot_at(bytes: &[u8], k: usize) -> Slot
     }
 }
 
+// What 26 bytes mean: in the first two the packet number has the top three bits and the step number the low thirteen.
 fn telegram_of(bytes: &[u8]) -> Telegram
     requires { ⌜ length (now bytes) ≡ 26 ⌝ }
     ensures { λ r. ⌜ r ≡ telegramOf (now (bytes .entry)) ⌝ }
 {
-    let head = head_of(bytes);
+    let head = wire::word_at(bytes, 0);
     let slots = [
         slot_at(bytes, 0),
         slot_at(bytes, 1),
@@ -135,30 +111,25 @@ fn telegram_of(bytes: &[u8]) -> Telegram
     }
 }
 
-fn blank_telegram() -> Telegram
-    ensures { λ r. ⌜ r ≡ blank ⌝ }
-{
-    let none = Slot::empty();
-    Telegram {
-        packet: 0,
-        step: 0,
-        slots: [none; 4],
-    }
-}
-
 // What a telegram of any bytes and any length means, or its refusal.
 pub fn read(bytes: &[u8]) -> Reading
     ensures { λ r. ⌜ r ≡ readOf (now (bytes .entry)) ⌝ }
 {
+    let none = Slot::empty();
     let refusal = refusal_of(bytes);
     if refusal != 0 {
         return Reading {
             verdict: Verdict::Refused(refusal),
-            telegram: blank_telegram(),
+            telegram: Telegram {
+                packet: 0,
+                step: 0,
+                slots: [none; 4],
+            },
         };
     }
+    let telegram = telegram_of(bytes);
     Reading {
         verdict: Verdict::Accepted,
-        telegram: telegram_of(bytes),
+        telegram,
     }
 }

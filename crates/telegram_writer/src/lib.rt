@@ -1,5 +1,4 @@
 // Writing a telegram into a buffer of any length: refused 9, then 10, with no byte changed, or all 26 bytes.
-use condition::Coded;
 use condition::Slot;
 use telegram::FIRST_PACKET;
 use telegram::LAST_PACKET;
@@ -14,7 +13,7 @@ ghost use lib.ListN.{length};
 ghost use Rattle.kit.specs.Bytes.{wordBytes};
 ghost use Rattle.kit.specs.Put.{Put};
 ghost use Rattle.condition.specs.Slots.{codedOf, sixOf};
-ghost use Rattle.telegram.specs.Telegrams.{headOf, bytesOf, writeRefusal, writeVerdict, written};
+ghost use Rattle.telegram.specs.Telegrams.{bytesOf, writeRefusal, writeVerdict, written};
 
 fn put_byte(buffer: &mut [u8], at: usize, byte: u8) -> usize
     requires { ⌜ at < length (now buffer) ⌝ }
@@ -32,41 +31,31 @@ fn put_word(buffer: &mut [u8], at: usize, word: u16) -> usize
     put_byte(buffer, next, (word % 256) as u8)
 }
 
-fn put_coded(buffer: &mut [u8], at: usize, coded: Coded) -> usize
+fn put_slot(buffer: &mut [u8], at: usize, slot: Slot) -> usize
     requires { ⌜ at + 6 ≤ length (now buffer) ⌝ }
-    ensures { λ r. ⌜ Put (now (buffer .entry)) at (sixOf coded) (now (buffer .exit)) r ⌝ }
+    ensures { λ r. ⌜ Put (now (buffer .entry)) at (sixOf (codedOf slot)) (now (buffer .exit)) r ⌝ }
 {
+    let coded = condition::coded_of(slot);
     let second = put_byte(buffer, at, coded.number);
     let third = put_byte(buffer, second, coded.kind);
     let fifth = put_word(buffer, third, coded.first);
     put_word(buffer, fifth, coded.second)
 }
 
-fn put_slot(buffer: &mut [u8], at: usize, slot: Slot) -> usize
-    requires { ⌜ at + 6 ≤ length (now buffer) ⌝ }
-    ensures { λ r. ⌜ Put (now (buffer .entry)) at (sixOf (codedOf slot)) (now (buffer .exit)) r ⌝ }
-{
-    let coded = condition::coded_of(slot);
-    put_coded(buffer, at, coded)
-}
-
-// Packet number in the top three bits, step number in the low thirteen.
-fn head_of(packet: u8, step: u16) -> u16
-    ensures { λ r. ⌜ r ≡ headOf packet step ⌝ }
-{
-    (packet % 8) as u16 * STEPS + step % STEPS
-}
-
+// The head has the packet number in its top three bits and the step number in the low thirteen.
 fn put_telegram(buffer: &mut [u8], telegram: Telegram)
     requires { ⌜ length (now buffer) ≡ 26 ⌝ }
     ensures { λ r. ⌜ now (buffer .exit) ≡ bytesOf telegram ⌝ }
 {
     let slots = telegram.slots;
-    let first = put_word(buffer, 0, head_of(telegram.packet, telegram.step));
-    let second = put_slot(buffer, first, slots[0]);
-    let third = put_slot(buffer, second, slots[1]);
-    let fourth = put_slot(buffer, third, slots[2]);
-    put_slot(buffer, fourth, slots[3]);
+    let head = (telegram.packet % 8) as u16 * STEPS + telegram.step % STEPS;
+    let mut at = put_word(buffer, 0, head);
+    let mut k: usize = 0;
+    while k < 4 {
+        let slot = slots[k];
+        at = put_slot(buffer, at, slot);
+        k += 1;
+    }
 }
 
 // The refusal of a packet number and a buffer's length, or 0.

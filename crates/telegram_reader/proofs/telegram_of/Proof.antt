@@ -4,8 +4,8 @@ use borrow.Author.Needs.{needs}
 use Rattle.telegram_reader.proofs.telegram_of.Statement.{statement}
 use Rattle.telegram_reader.proofs.telegram_of.Tie as tie
 
-head-of-requires : tie.Need-head-of-requires
-head-of-requires c κs = search needs
+word-at-requires : tie.Need-word-at-requires
+word-at-requires c κs = search needs
 
 slot-at-requires : tie.Need-slot-at-requires
 slot-at-requires c κs = search needs
@@ -26,13 +26,13 @@ returns : tie.Need-returns
 unfolding telegramOf
 returns c =
     let first = c .before .before .before in
-    simp (first .before .head-of .ensures, first .slot-at .ensures, c .before .before .slot-at2 .ensures, c .before .slot-at3 .ensures, c .slot-at4 .ensures)
+    simp (first .before .word-at .ensures, first .slot-at .ensures, c .before .before .slot-at2 .ensures, c .before .slot-at3 .ensures, c .slot-at4 .ensures)
 
 pub telegram-of-spec : {M : Type 1} → statement M
 telegram-of-spec =
     tie.close
     (tie.spec
-    head-of-requires
+    word-at-requires
     slot-at-requires
     slot-at-requires-2
     slot-at-requires-3

@@ -1,15 +1,24 @@
--- `Desk::accept`: by what `refusal_of` answered.
-use Prim.Native.Nat.{ℕ}
-use mathlib.Core.List.{List}
-use mathlib.Core.Path.{_≡_, sym, _∙_}
+-- `Desk::accept`: by what `refusal_of` answered; an accepted list makes who ends, who stays and who is new, one after another.
+use Prim.Native.Nat.{ℕ, _<_, _≤_}
+use mathlib.Core.List.{List, map}
+use mathlib.Core.Path.{_≡_, refl, sym, _∙_}
+use lib.ListN.{length}
 use borrow.Author.Needs.{needs}
+use Rattle.wire.specs.Steps.{steps}
 use Rattle.wire.specs.declared.verdicts.Verdict.the-variants.{Accepted, Refused}
+use Rattle.order_list.specs.Lists.{orderCount}
 use Rattle.orders.specs.Orders.{listRefusal}
+use Rattle.orders.proofs.Lists.{fair-length}
+use Rattle.places.specs.declared.Place.{Place}
+use Rattle.resting.specs.Rests.{isResting}
+use Rattle.resting.specs.declared.Ended.{Ended}
+use Rattle.arriving.specs.Arriving.{seatedAll}
+use Rattle.arriving.specs.declared.Seats.{Seats}
 use Rattle.desk.specs.declared.Answer.{Answer}
 use Rattle.desk.specs.declared.Desk.{Desk}
 use Rattle.desk.specs.Desks.{rest, acceptOf}
-use Rattle.desk.specs.Steps.{stepOf}
-use Rattle.desk.proofs.Making.{accepts, refuses}
+use Rattle.desk.specs.Steps.{nextStep, keptPlace, endedNumbers, stepOf}
+use Rattle.desk.proofs.Making.{accepts, refuses, made-sound}
 use Rattle.desk.proofs.Desk.accept.Statement.{statement}
 use Rattle.desk.proofs.Desk.accept.Tie as tie
 
@@ -26,19 +35,60 @@ module _ (desk : Desk) (list : List ℕ) (refusal : ℕ) (e : refusal ≡ listRe
   accepting : (next : Desk) → refusal ≡ 0 → next ≡ stepOf rest desk list → accepted next ≡ acceptOf rest desk list
   accepting next z s = rw s (sym (accepts rest desk list (sym e ∙ z)))
 
+stepped : (desk : Desk) (list : List ℕ) (ended : List Ended) (kept : List Place) (seats : Seats)
+    → ended ≡ endedNumbers list (nextStep (desk .step)) (desk .places) (desk .ended) → kept ≡ map (keptPlace list) (desk .places)
+    → seats ≡ seatedAll (isResting rest (nextStep (desk .step)) ended) list (record { places = kept; last = desk .last }) (orderCount list)
+    → record { places = seats .places; ended = ended; last = seats .last; step = nextStep (desk .step) } ≡ stepOf rest desk list
+unfolding stepOf
+stepped desk list ended kept seats e k s = rw (s, e, k) refl
+
 refusal-of-requires : tie.Need-refusal-of-requires
 refusal-of-requires c κs = search needs
 
 returns : tie.Need-returns
 returns c = let a = c .before .before .before .before .args in refusing (a .self) (a .list .now) _ (c .before .refusal-of .ensures) (c .if1 .taken)
 
-advance-requires : tie.Need-advance-requires
-advance-requires c κs = (c .before .before .before .before .pre, sym (c .before .refusal-of .ensures) ∙ c .if1 .left)
+add-step : tie.Need-add-step
+add-step c =
+    let start = c .before .before .before .before .before in
+    let p : start .args .self .step < steps = made-sound (start .pre) .below in
+    search needs
+
+cast-n : tie.Need-cast-n
+cast-n c =
+    let passed = c .before .before in
+    let start = passed .before .before .before .before in
+    let p : length (start .args .list .now) ≤ 200 =
+    fair-length (start .args .self .places) (start .args .list .now) (sym (passed .before .refusal-of .ensures) ∙ passed .if1 .left)
+    in search needs
+
+ended-numbers-requires : tie.Need-ended-numbers-requires
+ended-numbers-requires c κs = search needs
+
+kept-places-requires : tie.Need-kept-places-requires
+kept-places-requires c κs = search needs
+
+seat-all-requires : tie.Need-seat-all-requires
+seat-all-requires c κs = search needs
 
 returns-2 : tie.Need-returns-2
 returns-2 c =
-    let a = c .before .before .before .before .before .args in
-    accepting (a .self) (a .list .now) _ (c .before .before .refusal-of .ensures) _ (c .before .if1 .left) (c .advance .ensures)
+    let stayed = c .before .before in
+    let ended = stayed .before in
+    let passed = ended .before .before .before in
+    let a = passed .before .before .before .before .args in
+    accepting (a .self) (a .list .now) _ (passed .before .refusal-of .ensures) _ (passed .if1 .left)
+    (stepped (a .self) (a .list .now) _ _ _ (ended .ended-numbers .ensures) (stayed .kept-places .ensures) (c .before .seat-all .ensures))
 
 pub accept-spec : {M : Type 1} → statement M
-accept-spec = tie.close (tie.spec refusal-of-requires returns advance-requires returns-2)
+accept-spec =
+    tie.close
+    (tie.spec
+    refusal-of-requires
+    returns
+    add-step
+    cast-n
+    ended-numbers-requires
+    kept-places-requires
+    seat-all-requires
+    returns-2)
