@@ -2,11 +2,16 @@
 // pieces, so that a recording may have any length.
 use libc::STDIN_FILENO;
 use libc::STDOUT_FILENO;
+use lister::Listed;
 use lister::Lister;
 ghost use mathlib.Core.Path.{_≡_};
-ghost use Rattle.lister.specs.Pieces.{takeOf, Made};
+ghost use Prim.Native.Nat.{_≤_};
+ghost use lib.ListN.{length};
+ghost use Rattle.kit.specs.Put.{Poured};
+ghost use Rattle.lister.specs.Pieces.{takeOf, linesOf, Made};
+ghost use Rattle.listing_room.specs.Rooms.{pieceRoom, linesRoom};
 
-// How many bytes a piece has: a hundred telegrams. Their lines have room in 65,535 bytes, which is proved in `listing_room`.
+// How many bytes a piece has: a hundred telegrams.
 const PIECE: usize = 2600;
 
 fn main() {
@@ -31,13 +36,21 @@ fn show_header() {
     io::write_all(STDOUT_FILENO, &out[..n]);
 }
 
+// Puts the lines of one piece. It asks for the sizes for which it is proved that all of them have room (listing_room/proofs/Room.antt).
+fn put_piece(lister: Lister, piece: &[u8], out: &mut [u8]) -> Listed
+    requires { ⌜ Made lister × (length (now piece) ≤ pieceRoom) × (length (now out) ≡ linesRoom) ⌝ }
+    ensures { λ r. ⌜ (r .lister ≡ takeOf lister (now (piece .entry))) × Poured (now (out .entry)) 0 (linesOf lister (now (piece .entry))) (now (out .exit)) (r .at) ⌝ }
+{
+    lister.take(piece, out, 0)
+}
+
 // Writes the lines of one piece.
 fn show_piece(lister: Lister, piece: &[u8]) -> Lister
-    requires { ⌜ Made lister ⌝ }
+    requires { ⌜ Made lister × (length (now piece) ≤ pieceRoom) ⌝ }
     ensures { λ r. ⌜ r ≡ takeOf lister (now (piece .entry)) ⌝ }
 {
     let mut out = [0u8; 65535];
-    let listed = lister.take(piece, &mut out, 0);
+    let listed = put_piece(lister, piece, &mut out);
     let n = listed.at;
     io::write_all(STDOUT_FILENO, &out[..n]);
     let next = listed.lister;

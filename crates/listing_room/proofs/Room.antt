@@ -20,6 +20,7 @@ use Rattle.telegram.specs.Telegrams.{readOf}
 use Rattle.telegram.proofs.Valid.{never-invalid}
 use Rattle.listener.specs.declared.Listener.{Listener}
 use Rattle.listener.proofs.Every.{Every, fresh-every, hear-every}
+use Rattle.listing_room.specs.Rooms.{pieceRoom, linesRoom, headerRoom, endRoom}
 use Rattle.listing_room.proofs.Sizes.{number-byte, hear-small}
 use Rattle.listing_lines.specs.Lines.{headerLine, endLine}
 use Rattle.listing_room.proofs.Lines.{header-long, refused-short, end-short}
@@ -123,17 +124,17 @@ module _ (earlier : List (List ℕ)) (bytes : AllBytes earlier) (piece : List �
   pub piece-short : length (linesOf (afterAll begun earlier) piece) ≤ 639 * ((length piece + 25) / 26)
   piece-short = lines-short (afterAll begun earlier) (after-fit earlier bytes begun begun-fit) piece own
 
-  -- those of a piece of 2,600 bytes or fewer
-  pub program-room : length piece ≤ 2600 → length (linesOf (afterAll begun earlier) piece) ≤ 65535
+  -- those of a piece of the program's size
+  pub program-room : length piece ≤ pieceRoom → length (linesOf (afterAll begun earlier) piece) ≤ linesRoom
   program-room p = omega (arith, piece-short)
 
   -- so that a buffer of that size takes them all
-  pub all-put : {before after : List ℕ} {next : ℕ} → length piece ≤ 2600 → length before ≡ 65535 → Poured before 0 (linesOf (afterAll begun earlier) piece) after next
+  pub all-put : {before after : List ℕ} {next : ℕ} → length piece ≤ pieceRoom → length before ≡ linesRoom → Poured before 0 (linesOf (afterAll begun earlier) piece) after next
       → Put before 0 (linesOf (afterAll begun earlier) piece) after next
   all-put p room poured = poured-put (omega (arith, program-room p)) poured
 
--- G-02: the header has room in 16 bytes
-pub header-room : length headerLine ≤ 16
+-- G-02: the header has room
+pub header-room : length headerLine ≤ headerRoom
 header-room = omega (arith, header-long)
 
 tail-line-short : (kept : ℕ) → length (tailLine kept) ≤ 11
@@ -145,8 +146,8 @@ unfolding endOf
 end-of-short lister few =
     omega (arith, length-append (tailLine (lister .kept)) (endLine (lister .tables)), tail-line-short (lister .kept), end-short (lister .tables) (omega arith))
 
--- G-08, G-09: the end has room in 64 bytes, whatever the pieces were
-pub end-room : {lister : Lister} → Made lister → length (endOf lister) ≤ 64
+-- G-08, G-09: the end has room, whatever the pieces were
+pub end-room : {lister : Lister} → Made lister → length (endOf lister) ≤ endRoom
 end-room {lister} m = given (made-kept m) (λ (bytes, k). omega (arith, end-of-short lister (k .few)))
 
 -- G-01 to G-09: a whole listing has at most 639 bytes for each telegram that the recording has whole, and 49 more
