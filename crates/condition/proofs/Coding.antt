@@ -1,16 +1,16 @@
 -- A slot coded and read is that slot; a coded slot read and coded again is the same but for a second word that is not considered;
 -- and what is read has no code that the table of document 01 does not have.
-use Prim.Native.Nat.{ℕ, _+_, _*_, _/_, _%_, _<_, _≤_}
-use mathlib.Core.Path.{_≡_, refl, sym, ap, subst}
+use Prim.Native.Nat.{ℕ, _+_, _*_, _/_, _%_, _<_}
+use mathlib.Core.Path.{_≡_, refl, sym, ap, subst, _∙_}
 use mathlib.Core.Logic.{_⊎_, inl, inr, _↔_}
-use mathlib.Core.Bool.{true, false, not, _&&_, _||_}
+use mathlib.Core.Bool.{true, false, not, _&&_}
 use lib.Dec.{eqb, ltb, leb}
 use native.Mathlib.Omega.{arith}
-use borrow.Author.Tests.{eqb-true, eqb-false, ltb-true, leb-true, ne-eqb, lt-ltb, le-leb, not-false}
+use borrow.Author.Tests.{eqb-true, eqb-false, ltb-true, leb-true, ne-eqb, lt-ltb, not-false}
 use Rattle.kit.specs.Ladder.{Silent, Numbered}
 use Rattle.kit.proofs.Cases.{on, clash, given, and-both, and-second, above-zero}
 use Rattle.wire.specs.Distances.{noValue}
-use Rattle.kinds.specs.Words.{isType, isConsidered, secondAllowed, secondHeld}
+use Rattle.kinds.specs.Words.{isType, isConsidered, secondAllowed, secondHeld, isVoltage}
 use Rattle.condition.specs.Slots.{isFilled, isOccupied, bodyOf, slotRows, slotIn, coding, codedOf, settled, HeldBody, Held}
 use Rattle.condition.specs.declared.slots.Body.{Body}
 use Rattle.condition.specs.declared.slots.Body.the-variants.{Empty, Area, Traction, Current}
@@ -67,24 +67,17 @@ module _ (number first second : ℕ) (p : 0 < number) where
   unfolding bodyOf secondAllowed secondHeld isConsidered
   traction-held a =
       on (eqb first noValue)
-      (λ e. rw e (p, omega arith, omega arith, λ z. (refl, refl)))
+      (λ e. rw e (p, omega arith, refl, λ z. (refl, refl)))
       (λ e.
-      given (and-both (ltb second 0x4000) (leb (second % 16) 5) (rw e at a))
-      (λ (small, volt). rw e (p, omega arith, leb-true (second % 16) 5 volt, λ z. absurd (eqb-false first noValue e z))))
+      given (and-both (ltb second 0x4000) (isVoltage (second % 16)) (rw e at a))
+      (λ (small, volt). rw e (p, omega arith, volt, λ z. absurd (eqb-false first noValue e z))))
 
   current-held : secondAllowed 5 first second ≡ true → HeldBody number (bodyOf 5 first second)
   unfolding bodyOf secondAllowed secondHeld isConsidered
   current-held a =
       on (eqb first noValue)
-      (λ e. rw e (p, inl (omega arith), λ z. refl))
-      (λ e.
-      rw e (
-        p,
-        on (leb second 1000)
-            (λ low. inl (leb-true second 1000 low))
-            (λ high. inr (eqb-true second 1023 (rw high at (rw e at a)))),
-        λ z. absurd (eqb-false first noValue e z),
-      ))
+      (λ e. rw e (p, refl, λ z. refl))
+      (λ e. rw e (p, rw e at a, λ z. absurd (eqb-false first noValue e z)))
 
   area-held : (kind : ℕ) → isType kind ≡ true → eqb kind 4 ≡ false → eqb kind 5 ≡ false → HeldBody number (bodyOf kind first second)
   unfolding bodyOf
@@ -184,9 +177,10 @@ back number (Traction change country voltage) (p, c, v, z) =
     )))
     (λ e.
     let s1 : ltb second 0x4000 ≡ true = lt-ltb second 0x4000 (omega arith) in
-    let s2 : leb (second % 16) 5 ≡ true = le-leb (second % 16) 5 (omega arith) in
+    let volts = leb-true voltage _ v in
     let c1 : second / 16 % 1024 ≡ country = omega arith in
-    let v1 : second % 16 ≡ voltage = omega arith in (
+    let v1 : second % 16 ≡ voltage = omega arith in
+    let s2 : isVoltage (second % 16) ≡ true = ap isVoltage v1 ∙ v in (
       (rw n0 refl, (rw n1 refl, (rw (e, s1, s2) refl, tt))),
       rw e (λ i. record { number = number; body = Traction change (c1 i) (v1 i) }),
     ))
@@ -198,11 +192,7 @@ back number (Current change limit) (p, l, z) =
       (rw n0 refl, (rw n1 refl, (rw e refl, tt))),
       rw e (λ i. record { number = number; body = Current change (sym (z (eqb-true change noValue e)) i) }),
     ))
-    (λ e. ((rw n0 refl, (rw n1 refl, (rw (e, allowed l) refl, tt))), rw e refl))
-  where
-    allowed : (limit ≤ 1000) ⊎ (limit ≡ 1023) → leb limit 1000 || eqb limit 1023 ≡ true
-    allowed (inl low) = rw (le-leb limit 1000 low) refl
-    allowed (inr same) = rw same refl
+    (λ e. ((rw n0 refl, (rw n1 refl, (rw (e, l) refl, tt))), rw e refl))
 
 pub coded-silent : (x : Slot) → Held x → Silent (slotRows (codedOf x))
 unfolding codedOf

@@ -1,14 +1,13 @@
 -- A slot and its coding: document 01, "Conditions" and "Telegrams", rows 12, 13 and 6.
-use Prim.Native.Nat.{ℕ, _+_, _*_, _/_, _%_, _<_, _≤_}
+use Prim.Native.Nat.{ℕ, _+_, _*_, _/_, _%_, _<_}
 use mathlib.Core.Path.{_≡_}
-use mathlib.Core.Logic.{_⊎_}
 use mathlib.Core.Bool.{Bool, true, false, cond, not, _&&_}
 use mathlib.Core.List.{List, [], _∷_, _++_}
 use lib.Dec.{eqb, ltb}
 use Rattle.kit.specs.Bytes.{wordBytes}
 use Rattle.kit.specs.Ladder.{ladder}
 use Rattle.wire.specs.Distances.{noValue}
-use Rattle.kinds.specs.Words.{isType, secondAllowed, secondHeld}
+use Rattle.kinds.specs.Words.{isType, isVoltage, currentWord, secondAllowed, secondHeld}
 use Rattle.condition.specs.declared.slots.Body.{Body}
 use Rattle.condition.specs.declared.slots.Body.the-variants.{Empty, Area, Traction, Current}
 use Rattle.condition.specs.declared.slots.Coded.{Coded}
@@ -87,8 +86,8 @@ sixOf c = (c .number ∷ []) ++ ((c .kind ∷ []) ++ (wordBytes (c .first) ++ wo
 abbrev pub HeldBody : ℕ → Body → Type 0
 HeldBody number Empty = number ≡ 0
 HeldBody number (Area kind entry exit) = (0 < number) × (isType kind ≡ true) × (eqb kind 4 ≡ false) × (eqb kind 5 ≡ false)
-HeldBody number (Traction change country voltage) = (0 < number) × (country < 1024) × (voltage ≤ 5) × (change ≡ noValue → (country ≡ 0) × (voltage ≡ 0))
-HeldBody number (Current change limit) = (0 < number) × ((limit ≤ 1000) ⊎ (limit ≡ 1023)) × (change ≡ noValue → limit ≡ 0)
+HeldBody number (Traction change country voltage) = (0 < number) × (country < 1024) × (isVoltage voltage ≡ true) × (change ≡ noValue → (country ≡ 0) × (voltage ≡ 0))
+HeldBody number (Current change limit) = (0 < number) × (currentWord limit ≡ true) × (change ≡ noValue → limit ≡ 0)
 
 -- the same, of the slot
 abbrev pub Held : Slot → Type 0

@@ -10,9 +10,13 @@ use Rattle.wire.specs.Distances.{noValue}
 abbrev pub isType : ℕ → Bool
 isType kind = leb 1 kind && leb kind 9
 
--- K-03: bits 15..14 zero, bits 13..4 any country, bits 3..0 voltage 0 to 5
+-- K-03: voltage 0 to 5
+abbrev pub isVoltage : ℕ → Bool
+isVoltage voltage = leb voltage 5
+
+-- K-03: bits 15..14 zero, bits 13..4 any country, bits 3..0 the voltage
 abbrev pub tractionWord : ℕ → Bool
-tractionWord second = ltb second 0x4000 && leb (second % 16) 5
+tractionWord second = ltb second 0x4000 && isVoltage (second % 16)
 
 -- K-04: a limit of 0 to 1000 in units of 10 A, or 1023 for no restriction
 abbrev pub currentWord : ℕ → Bool
