@@ -5,8 +5,9 @@
  * Each function that puts text or telegrams takes an input and a lent buffer, as pointer and length, which must not overlap. It
  * puts the output's first bytes into the buffer, as far as the buffer reaches, leaves the bytes past them alone, and answers how
  * many bytes it put. An answer that is less than the buffer's length says that all of the output is there; where it is the
- * buffer's whole length, some of it may be missing: lend a longer buffer. No function keeps anything between two calls, allocates
- * memory or fails. A pointer must not be null, not even with length 0.
+ * buffer's whole length, some of it may be missing: lend a longer buffer. Each call takes a whole input and begins with a fresh
+ * desk, listener or record: no function keeps anything between two calls, allocates memory or fails. A pointer must not be null,
+ * not even with length 0.
  */
 #ifndef BRAVOLITH_H
 #define BRAVOLITH_H
@@ -27,20 +28,21 @@ size_t bravolith_list(const uint8_t *recording, size_t recording_length, uint8_t
 
 /*
  * The tables of a fresh desk that is handed lists, each after its length in two bytes, high first: for each list that is accepted
- * the table as five telegrams, packets 3 to 7, 130 bytes, as the program run_desk writes them to standard output.
+ * the table as five telegrams, packets 3 to 7, 130 bytes, as the program run_desk writes them to standard output. 130 bytes for
+ * each list, and one more, are always enough.
  */
 size_t bravolith_run(const uint8_t *lists, size_t lists_length, uint8_t *out, size_t out_length);
 
 /*
  * The lines on the same lists: "refused N at list I" for each list that is refused, and "short list" where the input ends inside a
- * list, as run_desk writes them to standard error.
+ * list, as run_desk writes them to standard error. 64 bytes for each list, and 12 more, are always enough.
  */
 size_t bravolith_run_lines(const uint8_t *lists, size_t lists_length, uint8_t *out, size_t out_length);
 
 /*
  * The lines of calls with train telegrams, each a length in two bytes, high first, and so many bytes; the length FFFFh, with
  * nothing after it, is a call with no telegram. One line a call, and "short call" where the input ends inside a call, as the
- * program read_signals writes them.
+ * program read_signals writes them. 256 bytes for each call, and 12 more, are always enough.
  */
 size_t bravolith_signals(const uint8_t *calls, size_t calls_length, uint8_t *out, size_t out_length);
 
