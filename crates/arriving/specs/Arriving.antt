@@ -12,7 +12,8 @@ use Rattle.numbers.specs.Numbers.{nextNumber}
 use Rattle.leaving.specs.Leaving.{bodyIn}
 use Rattle.arriving.specs.declared.Seats.{Seats}
 
--- D-08, D-09: a new order takes the lowest free slot and the first permitted number after the last one given
+-- D-08, D-09: a new order takes the lowest free slot and the first permitted number after the last one given; D-16: new is every order
+-- that is not live, one that ended before too
 unfoldable pub seated : (ℕ → Bool) → Order → Seats → Seats
 seated resting order seats =
     let number = nextNumber resting (seats .places) (seats .last) in

@@ -21,15 +21,16 @@ use Rattle.desk.specs.Steps.{stepOf}
 abbrev pub rest : ℕ
 rest = 8
 
--- D-04, D-11: step 0, all slots empty, nothing ended and no number given; a desk keeps so many rows of twenty ended numbers
+-- D-04, D-11: step 0, all slots empty, nothing ended and no number given; D-14: a desk keeps so many rows of twenty ended numbers
 unfoldable pub freshWith : ℕ → Desk
 freshWith rows = record { places = replicate slots freePlace; ended = replicate (slots * rows) noneEnded; last = 0; step = 0 }
 
--- D-12: as many rows as an ended number rests
+-- D-12: as many rows as an ended number rests; D-05: it is a desk like any other, and its table is written as theirs are
 abbrev pub freshDesk : Desk
 freshDesk = freshWith rest
 
--- M-1a, D-02, D-18: refused with the desk as it was, or accepted with the desk after the step
+-- M-1a, D-02, D-18: refused with the desk as it was, or accepted with the desk after the step; D-17: no row refuses an empty list, and
+-- no order stands in it
 unfoldable pub acceptOf : ℕ → Desk → List ℕ → Answer
 acceptOf rest desk list =
     let refusal = listRefusal (desk .places) list in

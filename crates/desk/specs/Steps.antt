@@ -32,7 +32,8 @@ endedNumbers list = Leaving.endedNumbers list (orderCount list)
 
 -- ---- the step
 
--- D-02, D-03, D-06 to D-09, D-12: the desk after an accepted list
+-- D-02, D-03, D-06 to D-09, D-12: the desk after an accepted list; W-02: who stays, ends and is new is judged by this list alone, the
+-- whole of the orders now in force
 unfoldable pub stepOf : ℕ → Desk → List ℕ → Desk
 stepOf rest desk list =
     let step = nextStep (desk .step) in
