@@ -19,6 +19,9 @@ each-more of k (suc n) =
     ap (λ x. each of k x) f
     ∙ (ap (λ l. of k ++ l) (each-more of (k + 1) n ∙ ap (λ x. each of (k + 1) n ++ of x) e) ∙ sym (append-assoc (of k) (each of (k + 1) n) (of (k + suc n))))
 
+pub each-next : {A : Type 0} (of : ℕ → List A) (n : ℕ) → each of 0 (n + 1) ≡ each of 0 n ++ of n
+each-next of n = let here : 0 + n ≡ n = omega arith in each-more of 0 n ∙ ap (λ x. each of 0 n ++ of x) here
+
 module _ {A : Type 0} (of : ℕ → List A) (size : ℕ) (sized : (i : ℕ) → length (of i) ≡ size) where
   pub length-each : (k n : ℕ) → length (each of k n) ≡ n * size
   unfolding each

@@ -11,7 +11,7 @@ use borrow.Author.Tests.{leb-true, leb-false}
 use Rattle.kit.specs.Each.{each}
 use Rattle.kit.specs.Put.{Put, Poured}
 use Rattle.kit.proofs.Cases.{on}
-use Rattle.kit.proofs.Each.{each-more}
+use Rattle.kit.proofs.Each.{each-next}
 use Rattle.kit.proofs.Stores.{sets-past}
 
 sets-append : (l : List ℕ) (i : ℕ) (a b : List ℕ) → sets (sets l i a) (i + length a) b ≡ sets l i (a ++ b)
@@ -33,6 +33,13 @@ put-then {l} {m} {n} {i} {j} {k} {a} {b} p q =
 -- the same bytes under another name
 pub put-as : {l m : List ℕ} {i j : ℕ} {a b : List ℕ} → a ≡ b → Put l i b m j → Put l i a m j
 put-as {l} {m} {i} {j} e p = subst (λ (bytes : List ℕ). Put l i bytes m j) (sym e) p
+
+-- one thing's bytes after those of the i things before it
+pub put-each : (of : ℕ → List ℕ) (i : ℕ) {l m n : List ℕ} {at j k : ℕ} → Put l at (each of 0 i) m j → Put m j (of i) n k → Put l at (each of 0 (i + 1)) n k
+put-each of i a b = put-as (each-next of i) (put-then a b)
+
+pub put-length : {l m : List ℕ} {i j : ℕ} {bytes : List ℕ} → Put l i bytes m j → length m ≡ length l
+put-length {l} {m} {i} {j} {bytes} p = ap length (p .stored) ∙ length-sets l i bytes
 
 -- what fills a buffer from its start to its end is what the buffer then holds
 pub put-whole : {l bytes m : List ℕ} {j : ℕ} → length l ≡ length bytes → Put l 0 bytes m j → m ≡ bytes
@@ -83,9 +90,7 @@ poured-as {l} {m} {i} {j} e p = subst (λ (bytes : List ℕ). Poured l i bytes m
 
 -- one thing's bytes after those of the i things before it
 pub poured-each : (of : ℕ → List ℕ) (i : ℕ) {l m n : List ℕ} {at j k : ℕ} → Poured l at (each of 0 i) m j → Poured m j (of i) n k → Poured l at (each of 0 (i + 1)) n k
-poured-each of i a b =
-    let here : 0 + i ≡ i = omega arith in
-    poured-as (each-more of 0 i ∙ ap (λ x. each of 0 i ++ of x) here) (poured-then a b)
+poured-each of i a b = poured-as (each-next of i) (poured-then a b)
 
 -- where there is room for all of them, all are put
 pub poured-put : {l m : List ℕ} {i j : ℕ} {a : List ℕ} → i + length a ≤ length l → Poured l i a m j → Put l i a m j

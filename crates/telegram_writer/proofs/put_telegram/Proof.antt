@@ -1,28 +1,16 @@
 -- `put_telegram`: the head, and after k turns the first k slots; all of them fill the buffer from its start to its end.
-use Prim.Native.Nat.{ℕ, _+_, _*_, _-_, _≤_}
-use mathlib.Core.List.{List, _++_}
+use Prim.Native.Nat.{_+_, _*_, _-_, _≤_}
 use mathlib.Core.Path.{_≡_, sym, ap, _∙_}
 use lib.ListN.{length}
-use lib.Seq.{length-sets}
 use native.Mathlib.Omega.{arith}
 use borrow.Author.Needs.{needs}
 use Rattle.kit.specs.Each.{each}
 use Rattle.kit.specs.Put.{Put}
-use Rattle.kit.proofs.Each.{each-more}
-use Rattle.kit.proofs.Put.{put-none, put-then, put-as, put-whole}
+use Rattle.kit.proofs.Put.{put-none, put-then, put-as, put-each, put-length, put-whole}
 use Rattle.condition.specs.Slots.{sixOf}
 use Rattle.telegram.specs.Telegrams.{sixAt, bytesOf}
 use Rattle.telegram_writer.proofs.put_telegram.Statement.{statement}
 use Rattle.telegram_writer.proofs.put_telegram.Tie as tie
-
--- one thing's bytes after those of the i things before it
-put-each : (of : ℕ → List ℕ) (i : ℕ) {l m n : List ℕ} {at j k : ℕ} → Put l at (each of 0 i) m j → Put m j (of i) n k → Put l at (each of 0 (i + 1)) n k
-put-each of i a b =
-    let here : 0 + i ≡ i = omega arith in
-    put-as (each-more of 0 i ∙ ap (λ x. each of 0 i ++ of x) here) (put-then a b)
-
-put-length : {l m : List ℕ} {i j : ℕ} {bytes : List ℕ} → Put l i bytes m j → length m ≡ length l
-put-length {l} {m} {i} {j} {bytes} p = ap length (p .stored) ∙ length-sets l i bytes
 
 abbrev Inv-loop : tie.InvT-loop
 Inv-loop buffer₀ slots head at₀ k₀ buffer at k =
