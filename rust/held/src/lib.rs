@@ -7,8 +7,11 @@
 pub mod author;
 pub mod damage;
 pub mod desk_regimes;
+pub mod from_memory;
 pub mod hold;
+pub mod inputs;
 pub mod loss;
+pub mod measured;
 pub mod proved;
 pub mod random;
 pub mod recording_regimes;
@@ -16,4 +19,5 @@ pub mod regime;
 pub mod signal_regimes;
 pub mod tally;
 pub mod turns;
+pub mod whole;
 pub mod words;

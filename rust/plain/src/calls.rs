@@ -4,6 +4,9 @@
 //! The input is calls, each after its length in two bytes, high byte first.
 //! The length FFFFh, with nothing after it, is a call with no telegram.
 
+#[cfg(feature = "programs")]
+pub mod by_blocks;
+
 use crate::run::{Piece, Pieces};
 use crate::signals::{Brake, Cab, Isolation, Signals, States, SYSTEMS};
 use crate::text::{Page, Word};

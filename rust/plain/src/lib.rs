@@ -8,6 +8,8 @@
 //! One idea has one file, and the names are document 01's words. Only `type`
 //! is a word of Rust, so the type of a condition is called `kind` here.
 
+#[cfg(feature = "programs")]
+pub mod blocks;
 pub mod calls;
 pub mod condition;
 pub mod desk;

@@ -1,5 +1,8 @@
 //! Document 01, "Listing program": a recording becomes a listing.
 
+#[cfg(feature = "programs")]
+pub mod by_blocks;
+
 use crate::condition::{country, voltage, CURRENT_CHANGE, NO_VALUE, TRACTION_CHANGE};
 use crate::listener::{Heard, Listener, Picture};
 use crate::refusal::Refusal;

@@ -3,6 +3,9 @@
 //! The input is lists one after another, each after its length in two bytes,
 //! high byte first. All go in order to one fresh desk.
 
+#[cfg(feature = "programs")]
+pub mod by_blocks;
+
 use crate::desk::Desk;
 use crate::telegram::{FIRST_PACKET, LAST_PACKET, PACKETS, TELEGRAM_BYTES};
 use crate::text::{Page, Word};

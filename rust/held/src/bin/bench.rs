@@ -1,98 +1,137 @@
-//! Measures the proved library and the plain one side by side. It is a
+//! Measures the proved code and the plain one side by side. It is a
 //! measurement and never a test.
 //!
-//! `bench [--times N]` makes its inputs in memory, runs the two in turn N
-//! times and shows the best time of each.
+//! `bench [--times N]` runs the two in turn N times and shows the best time of
+//! each: first the functions of the library from memory, on inputs of three
+//! sizes, and then the whole programs from a file. It is run from the
+//! repository's root. The proved programs are those of `target/bin`, or of the
+//! folder that BRAVOLITH_BIN_DIR names; the plain ones are beside `bench`.
 
-use held::author::Author;
 use held::hold::{Function, LIST, RUN, SIGNALS};
-use held::random::Random;
-use held::signal_regimes::{good, put, put_none};
-use plain::telegram::TELEGRAM_BYTES;
-use std::hint::black_box;
+use held::measured::Measured;
+use held::whole::{self, Folders, Program, LIST_CONDITIONS, READ_SIGNALS, RUN_DESK};
+use held::{from_memory, inputs};
+use plain::telegram::PACKETS;
+use std::env;
+use std::path::PathBuf;
 use std::process::ExitCode;
-use std::time::{Duration, Instant};
+use std::time::Duration;
 
-const TABLES: usize = 100_000;
-const CALLS: usize = 500_000;
+/// So many tables, lists, and thousands of calls by fives.
+const SIZES: [usize; 3] = [1_000, 10_000, 100_000];
+const CALLS_OF_A_SIZE: usize = 5;
 
-/// Lists of about twelve live orders of all types, some new in each step.
-fn lists() -> Vec<u8> {
-    let mut random = Random::new(1435);
-    let mut author = Author::new(&mut random);
-    author.begin(12);
-    for _ in 0..TABLES {
-        let ended = author.random.below(4);
-        author.end(ended);
-        let wanted = author.random.between(11, 13);
-        let begun = wanted.saturating_sub(author.live.len());
-        author.begin(begun);
-        author.change_words();
-        author.put_live();
-    }
-    author.input
+/// One thing that is measured in both ways.
+struct Subject {
+    function: Function,
+    program: Program,
+    input: fn(usize) -> Vec<u8>,
+    /// What is counted, and how many of them an input of size 1 has.
+    unit: &'static str,
+    units: usize,
 }
 
-/// Mostly good telegrams; one call in twenty is a miss of some kind.
-fn calls() -> Vec<u8> {
-    let mut random = Random::new(1435);
-    let mut input = Vec::new();
-    for _ in 0..CALLS {
-        let mut telegram = good(&mut random);
-        match random.below(40) {
-            0 => put_none(&mut input),
-            1 => {
-                telegram[25] = 1;
-                put(&mut input, &telegram);
-            }
-            _ => put(&mut input, &telegram),
-        }
-    }
-    input
-}
+const SUBJECTS: [Subject; 3] = [
+    Subject {
+        function: LIST,
+        program: LIST_CONDITIONS,
+        input: inputs::recording,
+        unit: "telegram",
+        units: PACKETS,
+    },
+    Subject {
+        function: RUN,
+        program: RUN_DESK,
+        input: inputs::lists,
+        unit: "list",
+        units: 1,
+    },
+    Subject {
+        function: SIGNALS,
+        program: READ_SIGNALS,
+        input: |size| inputs::calls(size * CALLS_OF_A_SIZE),
+        unit: "call",
+        units: CALLS_OF_A_SIZE,
+    },
+];
 
-/// The best times of the two on one input, run in turn.
-fn measure(function: &Function, input: &[u8], units: usize, unit: &str, times: u32) -> bool {
-    let mut plain = Vec::new();
-    (function.plain)(input, &mut plain);
-    // Both buffers have the right size and every page of them was written
-    // before the first measured run.
-    let mut lent = vec![0xAA; plain.len()];
-    let mut best = [Duration::MAX; 2];
-    let mut same = true;
-    for _ in 0..times {
-        let start = Instant::now();
-        let answer = (function.proved)(black_box(input), black_box(&mut lent));
-        best[0] = best[0].min(start.elapsed());
-        plain.clear();
-        let start = Instant::now();
-        (function.plain)(black_box(input), black_box(&mut plain));
-        best[1] = best[1].min(start.elapsed());
-        same &= answer == plain.len() && lent == plain;
-    }
+fn show_head(name: &str, unit: &str) {
+    let units = format!("{unit}s");
+    let each = format!("ns a {unit}");
+    println!("{name}");
     println!(
-        "{}: {units} {unit}s, {} bytes in, {} bytes out",
-        function.name,
-        input.len(),
-        plain.len()
+        "  {units:>9} {:>10} {:>10}  {:>10} {each:>14}  {:>10} {each:>14}  proved/plain",
+        "bytes in", "bytes out", "proved ms", "plain ms"
     );
-    for (name, time) in ["proved", "plain"].iter().zip(best) {
-        let milliseconds = time.as_secs_f64() * 1e3;
-        let each = time.as_secs_f64() * 1e9 / units as f64;
-        println!("  {name:6} {milliseconds:9.2} ms {each:9.1} ns a {unit}");
-    }
-    let ratio = best[0].as_secs_f64() / best[1].as_secs_f64();
-    println!("  proved/plain {ratio:.2}");
-    if !same {
+}
+
+/// One line of a table; the answer is whether the outputs were the same.
+fn show(measured: &Measured, units: usize) -> bool {
+    let milliseconds = |time: Duration| time.as_secs_f64() * 1e3;
+    let each = |time: Duration| time.as_secs_f64() * 1e9 / units as f64;
+    println!(
+        "  {units:>9} {:>10} {:>10}  {:>10.2} {:>14.1}  {:>10.2} {:>14.1}  {:>12.2}",
+        measured.bytes_in,
+        measured.bytes_out,
+        milliseconds(measured.proved),
+        each(measured.proved),
+        milliseconds(measured.plain),
+        each(measured.plain),
+        measured.ratio()
+    );
+    if !measured.same {
         println!("  THE OUTPUTS DIFFER");
+    }
+    measured.same
+}
+
+/// The functions of the library, on each size, to see how the cost grows.
+fn from_memory(times: u32) -> bool {
+    println!("from memory, into buffers made and touched once before");
+    let mut same = true;
+    for subject in &SUBJECTS {
+        show_head(subject.function.name, subject.unit);
+        for size in SIZES {
+            let input = (subject.input)(size);
+            let measured = from_memory::measure(&subject.function, &input, times);
+            same &= show(&measured, size * subject.units);
+        }
     }
     same
 }
 
+/// The programs, on the largest size.
+fn whole_programs(folders: &Folders, times: u32) -> bool {
+    println!("whole programs, as processes, from a file that was just written, to /dev/null");
+    let mut same = true;
+    for subject in &SUBJECTS {
+        show_head(subject.program.name, subject.unit);
+        let size = SIZES[SIZES.len() - 1];
+        let input = (subject.input)(size);
+        match whole::measure(&subject.program, folders, &input, times) {
+            Ok(measured) => same &= show(&measured, size * subject.units),
+            Err(words) => {
+                println!("  NOT MEASURED: {words}");
+                same = false;
+            }
+        }
+    }
+    same
+}
+
+fn folders() -> Option<Folders> {
+    let proved = env::var_os("BRAVOLITH_BIN_DIR").map_or("target/bin".into(), PathBuf::from);
+    Some(Folders {
+        proved,
+        plain: env::current_exe().ok()?.parent()?.into(),
+        scratch: "target/bench".into(),
+    })
+}
+
 fn times() -> Result<u32, String> {
-    let arguments: Vec<String> = std::env::args().skip(1).collect();
+    let arguments: Vec<String> = env::args().skip(1).collect();
     match &arguments[..] {
-        [] => Ok(7),
+        [] => Ok(15),
         [name, value] if name == "--times" => match value.parse() {
             Ok(times) if times > 0 => Ok(times),
             _ => Err(format!("{value} is no number of times")),
@@ -102,23 +141,19 @@ fn times() -> Result<u32, String> {
 }
 
 fn main() -> ExitCode {
-    let times = match times() {
-        Ok(times) => times,
-        Err(words) => {
+    let (times, folders) = match (times(), folders()) {
+        (Ok(times), Some(folders)) => (times, folders),
+        (Err(words), _) => {
             eprintln!("{words}");
             return ExitCode::from(2);
         }
+        (_, None) => {
+            eprintln!("bench cannot tell where it is");
+            return ExitCode::from(2);
+        }
     };
-    println!("best of {times}, in turn, into buffers made and touched once before");
-    let lists = lists();
-    let mut recording = Vec::new();
-    plain::run::run(&lists, &mut recording);
-    let telegrams = recording.len() / TELEGRAM_BYTES;
-    let mut same = measure(&LIST, &recording, telegrams, "telegram", times);
-    drop(recording);
-    same &= measure(&RUN, &lists, TABLES, "list", times);
-    drop(lists);
-    same &= measure(&SIGNALS, &calls(), CALLS, "call", times);
+    println!("best of {times}, proved and plain in turn");
+    let same = from_memory(times) & whole_programs(&folders, times);
     if same {
         println!("outputs are the same");
         ExitCode::SUCCESS
