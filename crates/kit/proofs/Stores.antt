@@ -16,6 +16,22 @@ pub sets-past : {A : Type 0} (stored l : List A) (at : ℕ) → length l ≤ at 
 sets-past [] l at h = refl
 sets-past (a ∷ stored) l at h = ap (λ m. sets m (suc at) stored) (set-out l at a h) ∙ sets-past stored l (suc at) (omega arith)
 
+-- several stores, each at its own distance from a place, are one run
+abbrev pub stores : {A : Type 0} → List A → ℕ → ℕ → List A → List A
+stores l at k [] = l
+stores l at k (a ∷ more) = stores (set l (at + k) a) at (suc k) more
+
+stores-sets : {A : Type 0} (more l : List A) (at k : ℕ) → stores l at k more ≡ sets l (at + k) more
+stores-sets [] l at k = refl
+stores-sets (a ∷ more) l at k =
+    let next : at + suc k ≡ suc (at + k) = omega arith in
+    stores-sets more (set l (at + k) a) at (suc k) ∙ ap (λ (i : ℕ). sets (set l (at + k) a) i more) next
+
+pub stored-sets : {A : Type 0} (l : List A) (at : ℕ) (a : A) (more : List A) → stores (set l at a) at 1 more ≡ sets l at (a ∷ more)
+stored-sets l at a more =
+    let next : at + 1 ≡ suc at = omega arith in
+    stores-sets more (set l at a) at 1 ∙ ap (λ (i : ℕ). sets (set l at a) i more) next
+
 module _ {A : Type 0} (other : A) where
   pub sets-out : (stored l : List A) (at i : ℕ) → (i < at) ⊎ (at + length stored ≤ i) → getD (sets l at stored) i other ≡ getD l i other
   sets-out [] l at i h = refl

@@ -1,26 +1,49 @@
-// Which entries of a table are carried on from the picture before it.
+// Which entries of the set in the lent memory of a listener are carried on from the picture before it.
 use condition::SLOTS;
-use condition::Slot;
+use kinds::CURRENT;
+use kinds::TRACTION;
+use memory::PICTURE;
+use memory::SET;
+use memory::SLOT;
+ghost use Prim.Native.Nat.{_<_};
 ghost use mathlib.Core.Path.{_≡_};
-ghost use Rattle.marks.specs.Marks.{isSame, isKnown, isCarried, marksOf};
+ghost use Rattle.kit.specs.Loops.{any};
+ghost use Rattle.condition.specs.Slots.{slots};
+ghost use Rattle.memory.specs.Memory.{kindFrom, pictureIn, setIn};
+ghost use Rattle.marks.specs.Marks.{marksOf};
+ghost use Rattle.marks.specs.Lent.{hasBoth, isThere, allThere};
 
-// Whether two slots have the same number with the same type.
-fn is_same(before: Slot, slot: Slot) -> bool
-    ensures { λ r. ⌜ r ≡ isSame before slot ⌝ }
+// The type of a slot, by the byte that says what it holds and the byte after it.
+fn kind_of(shape: u8, own: u8) -> u8
+    ensures { λ r. ⌜ r ≡ kindFrom shape own ⌝ }
 {
-    if before.number != slot.number {
-        return false;
+    match shape {
+        0 => 0,
+        1 => own,
+        2 => TRACTION,
+        _ => CURRENT,
     }
-    condition::coded_of(before).kind == condition::coded_of(slot).kind
 }
 
-// Whether the previous picture has the slot's number with its type, in any slot.
-fn is_known(before: [Slot; 20], slot: Slot) -> bool
-    ensures { λ r. ⌜ r ≡ isKnown before slot ⌝ }
+// Whether slot j of the picture has the number and the type.
+fn has_both(memory: &[u8; 310], j: usize, number: u8, kind: u8) -> bool
+    requires { ⌜ j < 20 ⌝ }
+    ensures { λ r. ⌜ r ≡ hasBoth (now (memory .entry)) number kind j ⌝ }
+{
+    let at = PICTURE + SLOT * j;
+    if memory[at] != number {
+        return false;
+    }
+    kind_of(memory[at + 1], memory[at + 2]) == kind
+}
+
+// Whether any slot of the picture has them.
+fn is_known(memory: &[u8; 310], number: u8, kind: u8) -> bool
+    ensures { λ r. ⌜ r ≡ any (hasBoth (now (memory .entry)) number kind) 0 slots ⌝ }
 {
     let mut j: usize = 0;
     while j < SLOTS {
-        if is_same(before[j], slot) {
+        if has_both(memory, j, number, kind) {
             return true;
         }
         j += 1;
@@ -28,31 +51,45 @@ fn is_known(before: [Slot; 20], slot: Slot) -> bool
     false
 }
 
-// Whether an entry is carried on. The limit is the greatest gap over which one can be.
-fn is_carried(limit: u16, gap: u16, before: [Slot; 20], slot: Slot) -> bool
-    ensures { λ r. ⌜ r ≡ isCarried limit gap before slot ⌝ }
+// Whether slot i of the set is occupied and the picture has its number with its type. Most often it stands where it stood before, in
+// slot i: that one is looked at first.
+fn is_there(memory: &[u8; 310], i: usize) -> bool
+    requires { ⌜ i < 20 ⌝ }
+    ensures { λ r. ⌜ r ≡ isThere (now (memory .entry)) i ⌝ }
 {
-    if !slot.is_occupied() {
+    let at = SET + SLOT * i;
+    if memory[at + 1] == 0 {
         return false;
     }
-    if gap == 0 {
-        return false;
+    let kind = kind_of(memory[at + 1], memory[at + 2]);
+    if has_both(memory, i, memory[at], kind) {
+        return true;
     }
-    if gap > limit {
-        return false;
-    }
-    is_known(before, slot)
+    is_known(memory, memory[at], kind)
 }
 
-// The marks of a table's slots: true for carried, false for new and for empty.
-pub fn marks_of(limit: u16, gap: u16, before: [Slot; 20], table: [Slot; 20]) -> [bool; 20]
-    ensures { λ r. ⌜ r ≡ marksOf limit gap before table ⌝ }
+// For each slot of the set whether it is.
+fn all_there(memory: &[u8; 310]) -> [bool; 20]
+    ensures { λ r. ⌜ r ≡ allThere (now (memory .entry)) ⌝ }
 {
     let mut marks = [false; 20];
     let mut i: usize = 0;
     while i < SLOTS {
-        marks[i] = is_carried(limit, gap, before, table[i]);
+        marks[i] = is_there(memory, i);
         i += 1;
     }
     marks
+}
+
+// The marks of the set's slots: true for carried, false for new and for empty. The limit is the greatest gap over which one is carried.
+pub fn marks_of(limit: u16, gap: u16, memory: &[u8; 310]) -> [bool; 20]
+    ensures { λ r. ⌜ r ≡ marksOf limit gap (pictureIn (now (memory .entry))) (setIn (now (memory .entry))) ⌝ }
+{
+    if gap == 0 {
+        return [false; 20];
+    }
+    if gap > limit {
+        return [false; 20];
+    }
+    all_there(memory)
 }

@@ -1,84 +1,71 @@
-// What is judged of a whole table on the vehicle's side: how many conditions it has, and whether a number stands in it twice.
+// What is judged of a whole set in the lent memory of a listener: how many conditions it has, and whether a number stands in it twice.
 use condition::SLOTS;
-use condition::Slot;
-ghost use Prim.Native.Nat.{_+_, _<_, _≤_};
-ghost use mathlib.Core.Bool.{cond};
+use memory::SET;
+use memory::SLOT;
+ghost use Prim.Native.Nat.{_+_, _<_};
+ghost use mathlib.Core.Bool.{cond, true, false, _&&_};
 ghost use mathlib.Core.Path.{_≡_};
-ghost use Rattle.kit.specs.Loops.{any};
-ghost use Rattle.condition.specs.Slots.{isOccupied};
-ghost use Rattle.telegram.specs.Tables.{tableSlot};
-ghost use Rattle.picture.specs.Pictures.{countOf, hasNumber, isTwice, clashes};
+ghost use lib.ListN.{getD, set};
+ghost use Rattle.memory.specs.Memory.{isSet, setIn};
+ghost use Rattle.picture.specs.Pictures.{countOf, clashes};
 
-// One slot counted.
-fn counted(slot: Slot, sum: u8) -> u8
+// One slot counted, by the byte that says what it holds.
+fn counted(shape: u8, sum: u8) -> u8
     requires { ⌜ sum < 20 ⌝ }
-    ensures { λ r. ⌜ r ≡ cond (isOccupied slot) (sum + 1) sum ⌝ }
+    ensures { λ r. ⌜ r ≡ cond (isSet shape) (sum + 1) sum ⌝ }
 {
-    if slot.is_occupied() {
+    if shape != 0 {
         return sum + 1;
     }
     sum
 }
 
-// How many conditions a table has.
-pub fn count_of(table: [Slot; 20]) -> u8
-    ensures { λ r. ⌜ r ≡ countOf table ⌝ }
+// How many conditions the set has.
+pub fn count_of(memory: &[u8; 310]) -> u8
+    ensures { λ r. ⌜ r ≡ countOf (setIn (now (memory .entry))) ⌝ }
 {
     let mut count: u8 = 0;
     let mut i: usize = 0;
     while i < SLOTS {
-        count = counted(table[i], count);
+        count = counted(memory[SET + SLOT * i + 1], count);
         i += 1;
     }
     count
 }
 
-// Whether a slot is occupied and has the number.
-fn has_number(slot: Slot, number: u8) -> bool
-    ensures { λ r. ⌜ r ≡ hasNumber number slot ⌝ }
+// Whether an occupied slot's number was seen. That the number is a byte is told to the caller: of an element of a lent array the caller
+// does not know it, of a parameter the callee does.
+fn is_seen(seen: &[bool; 256], number: u8, shape: u8) -> bool
+    ensures { λ r. ⌜ (r ≡ isSet shape && getD (now (seen .entry)) number false) × (number < 256) ⌝ }
 {
-    if slot.is_occupied() {
-        return slot.number == number;
+    if shape != 0 {
+        return seen[number as usize];
     }
     false
 }
 
-// Whether a slot below n has the number.
-fn number_before(table: [Slot; 20], n: usize, number: u8) -> bool
-    requires { ⌜ n ≤ 20 ⌝ }
-    ensures { λ r. ⌜ r ≡ any (λ j. hasNumber number (tableSlot table j)) 0 n ⌝ }
+// An occupied slot's number is seen.
+fn see(seen: &mut [bool; 256], number: u8, shape: u8)
+    ensures { λ r. ⌜ now (seen .exit) ≡ cond (isSet shape) (set (now (seen .entry)) number true) (now (seen .entry)) ⌝ }
 {
-    let mut j: usize = 0;
-    while j < n {
-        if has_number(table[j], number) {
-            return true;
-        }
-        j += 1;
+    if shape != 0 {
+        seen[number as usize] = true;
     }
-    false
 }
 
-// Whether slot i is occupied and an earlier one has its number.
-fn is_twice(table: [Slot; 20], i: usize) -> bool
-    requires { ⌜ i < 20 ⌝ }
-    ensures { λ r. ⌜ r ≡ isTwice table i ⌝ }
+// Whether a number stands in the set twice.
+pub fn clashes(memory: &[u8; 310]) -> bool
+    ensures { λ r. ⌜ r ≡ clashes (setIn (now (memory .entry))) ⌝ }
 {
-    let slot = table[i];
-    if slot.is_occupied() {
-        return number_before(table, i, slot.number);
-    }
-    false
-}
-
-// Whether a number stands in the table twice.
-pub fn clashes(table: [Slot; 20]) -> bool
-    ensures { λ r. ⌜ r ≡ clashes table ⌝ }
-{
+    let mut seen = [false; 256];
     let mut i: usize = 0;
     while i < SLOTS {
-        if is_twice(table, i) {
+        let number = memory[SET + SLOT * i];
+        let shape = memory[SET + SLOT * i + 1];
+        if is_seen(&seen, number, shape) {
             return true;
         }
+        see(&mut seen, number, shape);
         i += 1;
     }
     false
