@@ -1,46 +1,47 @@
-// The set in hand: the packets of one step that are held so far.
+// The set in hand, in the lent memory of a listener: the packets of one step that are held so far.
 ghost use mathlib.Core.Path.{_≡_};
-ghost use mathlib.Core.Bool.{true};
-ghost use mathlib.Core.Logic.{_⊎_};
 ghost use Prim.Native.Nat.{_-_, _≤_};
-ghost use lib.ListN.{set};
-ghost use lib.Seq.{sets};
 ghost use Rattle.telegram.specs.Tables.{firstPacket};
-ghost use Rattle.hand.specs.Sets.{begun, setFor, isHeld, joined, isWhole};
+ghost use Rattle.telegram.specs.Telegrams.{packetIn};
+ghost use Rattle.hand.specs.Sets.{isHeld, isWhole};
+ghost use Rattle.hand.specs.Lent.{handIn, begunIn, fourIn, joinedIn};
 use condition::Slot;
 use telegram::FIRST_PACKET;
-use telegram::Telegram;
+use wire::STEPS;
 
 // How many packets carry a table.
 const PACKETS: usize = 5;
 
-// Which of the packets 3 to 7 are held, and the twenty slots, empty where no packet has come.
+// Where the step number of the set and the packets that are held stand in the memory.
+const STEP: usize = 163;
+
+const HELD: usize = 165;
+
+// A set by value: which of the packets 3 to 7 are held, and the twenty slots, empty where no packet has come.
 pub struct Hand {
     pub step: u16,
     pub held: [bool; 5],
     pub slots: [Slot; 20],
 }
 
-// A set with nothing in it.
-pub fn begun(step: u16) -> Hand
-    ensures { λ r. ⌜ r ≡ begun step ⌝ }
+// A set with nothing in it begins.
+pub fn begin(memory: &mut [u8; 310], step: u16)
+    ensures { λ _. ⌜ now (memory .exit) ≡ begunIn (now (memory .entry)) step ⌝ }
 {
-    let none = Slot::empty();
-    Hand {
-        step,
-        held: [false; 5],
-        slots: [none; 20],
+    memory[STEP] = (step / 256) as u8;
+    memory[STEP + 1] = (step % 256) as u8;
+    let mut k: usize = 0;
+    while k < 145 {
+        memory[HELD + k] = 0;
+        k += 1;
     }
 }
 
-// The set that a telegram of this step goes into.
-pub fn set_for(hand: Hand, step: u16) -> Hand
-    ensures { λ r. ⌜ r ≡ setFor hand step ⌝ }
+// The step number of the set.
+pub fn step_of(memory: &[u8; 310]) -> u16
+    ensures { λ r. ⌜ r ≡ handIn (now (memory .entry)) .step ⌝ }
 {
-    if hand.step == step {
-        return hand;
-    }
-    begun(step)
+    wire::word(memory[STEP], memory[STEP + 1])
 }
 
 // Where a packet stands among the five: 0 for packet 3. Packets 0 to 2 are taken as packet 3, and those above 7 lie past the five: the
@@ -55,68 +56,51 @@ fn place_of(packet: u8) -> usize
 }
 
 // Whether a packet is held.
-pub fn is_held(hand: Hand, packet: u8) -> bool
-    ensures { λ r. ⌜ r ≡ isHeld hand packet ⌝ }
+pub fn is_held(memory: &[u8; 310], packet: u8) -> bool
+    ensures { λ r. ⌜ r ≡ isHeld (handIn (now (memory .entry))) packet ⌝ }
 {
-    let held = hand.held;
     let k = place_of(packet);
     if k < PACKETS {
-        return held[k];
+        return memory[HELD + k] != 0;
     }
     false
 }
 
-// One packet more is held.
-fn with_held(held: [bool; 5], k: usize) -> [bool; 5]
-    ensures { λ r. ⌜ r ≡ set held k true ⌝ }
+// The packet number of a telegram, 0 to 7.
+fn packet_in(telegram: &[u8]) -> u8
+    ensures { λ r. ⌜ (r ≡ packetIn (now (telegram .entry))) × (r ≤ 7) ⌝ }
 {
-    if k < PACKETS {
-        let mut next = held;
-        next[k] = true;
-        return next;
-    }
-    held
+    (wire::word_at(telegram, 0) / STEPS) as u8
 }
 
-// Four slots put into twenty, or past their end.
-fn with_four(slots: [Slot; 20], at: usize, four: [Slot; 4]) -> [Slot; 20]
-    requires { ⌜ (at ≤ 16) ⊎ (20 ≤ at) ⌝ }
-    ensures { λ r. ⌜ r ≡ sets slots at four ⌝ }
+// The four slots of a telegram from slot i of the set on.
+fn put_four(memory: &mut [u8; 310], i: usize, telegram: &[u8])
+    requires { ⌜ i ≤ 16 ⌝ }
+    ensures { λ _. ⌜ now (memory .exit) ≡ fourIn (now (telegram .entry)) i (now (memory .entry)) 4 ⌝ }
 {
-    if at > 16 {
-        return slots;
+    let mut k: usize = 0;
+    while k < 4 {
+        memory::put_slot(memory, i + k, telegram_reader::place_slot(telegram, k));
+        k += 1;
     }
-    let mut with = slots;
-    with[at] = four[0];
-    with[at + 1] = four[1];
-    with[at + 2] = four[2];
-    with[at + 3] = four[3];
-    with
 }
 
-// The set with a telegram in it.
-pub fn joined(hand: Hand, telegram: Telegram) -> Hand
-    ensures { λ r. ⌜ r ≡ joined hand telegram ⌝ }
+// A telegram goes into the set.
+pub fn join(memory: &mut [u8; 310], telegram: &[u8])
+    ensures { λ _. ⌜ now (memory .exit) ≡ joinedIn (now (memory .entry)) (now (telegram .entry)) ⌝ }
 {
-    let held = hand.held;
-    let slots = hand.slots;
-    let four = telegram.slots;
-    let packet = telegram.packet;
-    Hand {
-        step: hand.step,
-        held: with_held(held, place_of(packet)),
-        slots: with_four(slots, telegram::first_slot(packet), four),
-    }
+    let packet = packet_in(telegram);
+    memory[HELD + place_of(packet)] = 1;
+    put_four(memory, telegram::first_slot(packet), telegram)
 }
 
 // Whether five packets are held.
-pub fn is_whole(hand: Hand) -> bool
-    ensures { λ r. ⌜ r ≡ isWhole hand ⌝ }
+pub fn is_whole(memory: &[u8; 310]) -> bool
+    ensures { λ r. ⌜ r ≡ isWhole (handIn (now (memory .entry))) ⌝ }
 {
-    let held = hand.held;
     let mut k: usize = 0;
     while k < PACKETS {
-        if !held[k] {
+        if memory[HELD + k] == 0 {
             return false;
         }
         k += 1;

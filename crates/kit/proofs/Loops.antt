@@ -1,7 +1,7 @@
 -- Laws of loops, in the loop's own form: what stands at index k of n is `.. k (n - k)`, and a turn takes it to `.. (k + 1) (n - (k + 1))`.
 use Prim.Native.Nat.{ℕ, zero, suc, _+_, _-_, _<_, _≤_}
 use mathlib.Core.Path.{_≡_, refl, sym, ap, _∙_}
-use mathlib.Core.Bool.{Bool, true, false, cond}
+use mathlib.Core.Bool.{Bool, true, false, cond, _||_}
 use lib.Dec.{eqb}
 use native.Mathlib.Omega.{arith}
 use borrow.Author.Tests.{eqb-true, eqb-false, eq-eqb, ne-eqb, ltb-true, ltb-false}
@@ -107,6 +107,26 @@ module _ (test : ℕ → Bool) where
 
   pub any-when : (k n j : ℕ) → k ≤ j → j < k + n → test j ≡ true → any test k n ≡ true
   any-when k n j p q t = on (any test k n) (λ e. e) (λ e. absurd (clash t (any-none k n e j p q)))
+
+-- one test more, at the row's end
+pub any-more : (f : ℕ → Bool) (n : ℕ) → any f 0 (n + 1) ≡ any f 0 n || f n
+any-more f n =
+    on (any f 0 n)
+    (λ e. given (any-some f 0 n e) (λ (j, p, q, t). rw e (any-when f 0 (n + 1) j p (omega arith) t)))
+    (λ e.
+    on (f n)
+    (λ t. rw (e, t) (any-when f 0 (n + 1) n (omega arith) (omega arith) t))
+    (λ t.
+    rw (e, t)
+    (scan-none f (λ i. true) false 0 (n + 1)
+    (λ j p q.
+    on (eqb j n) (λ here. ap f (eqb-true j n here) ∙ t) (λ there. any-none f 0 n e j p (omega (arith, eqb-false j n there)))))))
+
+-- tests that agree on a row
+pub any-same : (f g : ℕ → Bool) (k n : ℕ) → ((j : ℕ) → k ≤ j → j < k + n → f j ≡ g j) → any f k n ≡ any g k n
+unfolding scan
+any-same f g k zero same = refl
+any-same f g k (suc n) same = rw (same k (omega arith) (omega arith), any-same f g (k + 1) n (λ j p q. same j (omega arith) (omega arith))) refl
 
 module _ {A : Type 0} (turn : ℕ → A → A) (start : A) where
   pub fold-none : fold turn start 0 ≡ start

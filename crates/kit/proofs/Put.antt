@@ -1,11 +1,12 @@
 -- Laws of `Put`: one byte, one run after another, and a run that fills the buffer.
-use Prim.Native.Nat.{ℕ, suc, _+_, _≤_}
+use Prim.Native.Nat.{ℕ, suc, _+_, _<_, _≤_}
 use mathlib.Core.Path.{_≡_, refl, sym, ap, _∙_, subst}
 use mathlib.Core.List.{List, [], _∷_, _++_, append-nil}
-use lib.ListN.{length, take, drop, set, length-append, drop-of-length-le}
+use lib.ListN.{length, take, drop, getD, set, length-append, drop-of-length-le}
 use lib.Dec.{leb}
-use lib.Seq.{sets, sets-eq, length-sets, length-take-le}
+use lib.Seq.{sets, sets-eq, length-sets, length-take-le, take-suc, take-all}
 use native.Mathlib.Nat.{add-zero}
+use native.Mathlib.Numerals.{add-one}
 use native.Mathlib.Omega.{arith}
 use borrow.Author.Tests.{leb-true, leb-false}
 use Rattle.kit.specs.Each.{each}
@@ -47,6 +48,16 @@ put-whole {l} {bytes} {m} h p =
     let room : 0 + length bytes ≤ length l = omega arith in
     let rest : drop (0 + length bytes) l ≡ [] = drop-of-length-le l {i = 0 + length bytes} (omega arith) in
     p .stored ∙ (sets-eq bytes l 0 room ∙ (ap (λ (r : List ℕ). bytes ++ r) rest ∙ append-nil bytes))
+
+-- a loop that puts bytes one by one: one more, and all
+pub put-next : (bytes : List ℕ) {l m : List ℕ} (at k : ℕ) {byte : ℕ} → k < length bytes → byte ≡ getD bytes k 0 → Put l at (take k bytes) m (at + k)
+    → Put l at (take (k + 1) bytes) (set m (at + k) byte) (at + (k + 1))
+put-next bytes {m = m} at k inside same so-far =
+    put-as (ap (λ n. take n bytes) (add-one k) ∙ take-suc bytes k 0 inside)
+    (put-then so-far (record { stored = ap (λ b. set m (at + k) b) same; past = omega arith }))
+
+pub put-all : (bytes : List ℕ) (k : ℕ) {l m : List ℕ} {at j : ℕ} → length bytes ≤ k → Put l at (take k bytes) m j → m ≡ sets l at bytes
+put-all bytes k {l} {at = at} all put = put .stored ∙ ap (sets l at) (take-all k bytes all)
 
 -- ---- the same with a buffer's end
 

@@ -1,6 +1,10 @@
 // The step last taken: whether a telegram is of that step, and the gap from it to another.
 ghost use mathlib.Core.Path.{_≡_};
 ghost use Rattle.last_step.specs.LastSteps.{isLast, gapFrom};
+ghost use Rattle.last_step.specs.Lent.{lastIn, withLast};
+
+// Where it stands in the lent memory of a listener.
+const LAST: usize = 160;
 
 // The step last taken. That there is none yet is this enum's word, and not that the step number is 0.
 pub enum Last {
@@ -26,4 +30,23 @@ pub fn gap_from(last: Last, step: u16) -> u16
         Last::Never => 0,
         Last::Step(taken) => wire::gap(step, taken),
     }
+}
+
+// The step last taken, in the lent memory of a listener.
+pub fn last_in(memory: &[u8; 310]) -> Last
+    ensures { λ r. ⌜ r ≡ lastIn (now (memory .entry)) ⌝ }
+{
+    if memory[LAST] == 0 {
+        return Last::Never;
+    }
+    Last::Step(wire::word(memory[LAST + 1], memory[LAST + 2]))
+}
+
+// A step is the one last taken from now on.
+pub fn take_step(memory: &mut [u8; 310], step: u16)
+    ensures { λ _. ⌜ now (memory .exit) ≡ withLast (now (memory .entry)) step ⌝ }
+{
+    memory[LAST] = 1;
+    memory[LAST + 1] = (step / 256) as u8;
+    memory[LAST + 2] = (step % 256) as u8;
 }

@@ -1,17 +1,16 @@
 -- Laws of what the memory means: a slot, a table and flags at an index; what depends on which bytes; and a slot that was put in.
-use Prim.Native.Nat.{ℕ, zero, suc, _+_, _*_, _/_, _%_, _<_, _≤_}
-use mathlib.Core.Path.{_≡_, refl, sym, ap, ap₂, _∙_}
+use Prim.Native.Nat.{ℕ, _+_, _*_, _/_, _%_, _<_, _≤_}
+use mathlib.Core.Path.{_≡_, refl, sym, ap, _∙_}
 use mathlib.Core.Logic.{_⊎_, inl, inr}
-use mathlib.Core.Bool.{Bool, true, false, cond}
-use mathlib.Core.List.{List, [], _∷_, _++_}
+use mathlib.Core.Bool.{false}
+use mathlib.Core.List.{List}
 use lib.Dec.{eqb, ltb}
-use lib.ListN.{length, getD, set, drop, length-set, length-drop}
-use lib.Seq.{sets, length-sets, ext-getD, getD-set-same, getD-set-other, getD-drop}
+use lib.ListN.{length, getD, set, length-set}
+use lib.Seq.{sets, length-sets, ext-getD, getD-set-same, getD-set-other}
 use native.Mathlib.Omega.{arith}
 use native.Mathlib.Nat.{add-zero}
 use borrow.Author.Tests.{eqb-true, eqb-false, ltb-true, ltb-false}
-use Rattle.kit.specs.Bytes.{word, wordBytes}
-use Rattle.kit.specs.Each.{each}
+use Rattle.kit.specs.Bytes.{word}
 use Rattle.kit.proofs.Cases.{on}
 use Rattle.kit.proofs.Each.{length-one-each, one-each-at}
 use Rattle.kit.proofs.Stores.{sets-in, sets-out}
@@ -20,7 +19,7 @@ use Rattle.condition.specs.declared.slots.Body.{Body}
 use Rattle.condition.specs.declared.slots.Body.the-variants.{Empty, Area, Traction, Current}
 use Rattle.condition.specs.declared.slots.Slot.{Slot}
 use Rattle.telegram.specs.Tables.{tableSlot}
-use Rattle.memory.specs.Memory.{room, slotRoom, setFrom, slotPlace, bodyFrom, kindFrom, slotAt, tableAt, bodyBytes, slotBytes, withSlot, withPicture, isSet, flagsAt, pictureIn, setIn}
+use Rattle.memory.specs.Memory.{room, slotRoom, setFrom, slotPlace, bodyFrom, kindFrom, slotAt, tableAt, bodyBytes, slotBytes, withSlot, isSet, flagsAt, setIn}
 
 -- ---- at an index
 
@@ -58,6 +57,19 @@ slot-same a b x y same =
           bodyFrom (same 1 (omega arith) t) (same 2 (omega arith) t)
           (word (same 3 (omega arith) t) (same 4 (omega arith) t))
           (word (same 5 (omega arith) t) (same 6 (omega arith) t));
+    }
+
+-- zeros are an empty slot
+pub slot-zero : (memory : List ℕ) (at : ℕ) → ((r : ℕ) → r < slotRoom → getD memory (at + r) 0 ≡ 0) → slotAt memory at ≡ emptySlot
+unfolding slotAt bodyFrom
+slot-zero memory at zeros =
+    let number : getD memory at 0 ≡ 0 = sym (ap (λ (n : ℕ). getD memory n 0) (add-zero at)) ∙ zeros 0 (omega arith) in
+    λ t. record {
+      number = number t;
+      body =
+          bodyFrom (zeros 1 (omega arith) t) (zeros 2 (omega arith) t)
+          (word (zeros 3 (omega arith) t) (zeros 4 (omega arith) t))
+          (word (zeros 5 (omega arith) t) (zeros 6 (omega arith) t));
     }
 
 pub table-same : (a b : List ℕ) (x y : ℕ) → Same (slotRoom * slots) a x b y → tableAt a x ≡ tableAt b y
@@ -150,11 +162,11 @@ module _ (memory : List ℕ) (at : ℕ) where
 
 -- ---- a slot put into the set in hand
 
-module _ (memory : List ℕ) (long : length memory ≡ room) (i : ℕ) (slot : Slot) where
-  pub length-with : length (withSlot memory i slot) ≡ length memory
-  unfolding withSlot
-  length-with = length-sets memory (slotPlace setFrom i) (slotBytes slot)
+pub length-with : (memory : List ℕ) (i : ℕ) (slot : Slot) → length (withSlot memory i slot) ≡ length memory
+unfolding withSlot
+length-with memory i slot = length-sets memory (slotPlace setFrom i) (slotBytes slot)
 
+module _ (memory : List ℕ) (long : length memory ≡ room) (i : ℕ) (slot : Slot) where
   -- the set has it
   pub set-with : i < slots → setIn (withSlot memory i slot) ≡ set (setIn memory) i slot
   unfolding withSlot

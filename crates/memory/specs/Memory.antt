@@ -22,6 +22,7 @@ use Rattle.condition.specs.Slots.{slots}
 use Rattle.condition.specs.declared.slots.Body.{Body}
 use Rattle.condition.specs.declared.slots.Body.the-variants.{Empty, Area, Traction, Current}
 use Rattle.condition.specs.declared.slots.Slot.{Slot}
+use Rattle.telegram.specs.Tables.{tableSlot}
 
 -- ---- where things stand
 
@@ -90,6 +91,10 @@ bodyBytes number (Current change limit) = number ∷ 3 ∷ 0 ∷ (wordBytes chan
 
 unfoldable pub slotBytes : Slot → List ℕ
 slotBytes slot = bodyBytes (slot .number) (slot .body)
+
+-- the bytes of a table
+unfoldable pub tableBytes : List Slot → List ℕ
+tableBytes table = each (λ i. slotBytes (tableSlot table i)) 0 slots
 
 -- the memory with slot i of the set in hand put in; past the twentieth nothing is put
 unfoldable pub withSlot : List ℕ → ℕ → Slot → List ℕ

@@ -149,7 +149,7 @@ pub fn show(memory: &mut [u8; 310])
     let whole: &[u8] = memory;
     let mut k: usize = 0;
     while k < 140 {
-        memory[k] = memory[SET + k];
+        memory[PICTURE + k] = memory[SET + k];
         k += 1;
     }
 }

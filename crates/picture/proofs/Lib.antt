@@ -1,1 +1,2 @@
 pub mod Clashing
+pub mod Lent

@@ -11,6 +11,7 @@ ghost use mathlib.Core.Path.{_≡_};
 ghost use Prim.Native.Nat.{_<_, _≤_};
 ghost use lib.ListN.{length};
 ghost use Rattle.kit.specs.Ladder.{ladder};
+ghost use Rattle.telegram_reader.specs.Places.{placeSlot};
 ghost use Rattle.telegram.specs.Telegrams.{codedAt, slotAt, takenBefore, placeRows, readRefusal, telegramOf, readOf};
 
 // The six bytes of place k, 0 to 3.
@@ -60,7 +61,7 @@ fn place_refusal(bytes: &[u8], k: usize) -> u8
 }
 
 // The refusal of a telegram, or 0: its length, its packet, and then the first bad place.
-fn refusal_of(bytes: &[u8]) -> u8
+pub fn refusal_of(bytes: &[u8]) -> u8
     ensures { λ r. ⌜ r ≡ readRefusal (now (bytes .entry)) ⌝ }
 {
     if bytes.len() != LENGTH {
@@ -90,6 +91,19 @@ fn slot_at(bytes: &[u8], k: usize) -> Slot
         number: coded.number,
         body: condition::body_of(coded.kind, coded.first, coded.second),
     }
+}
+
+// The slot of place k of a telegram; of bytes that are not 26 or a place that is not 0 to 3, an empty one.
+pub fn place_slot(bytes: &[u8], k: usize) -> Slot
+    ensures { λ r. ⌜ r ≡ placeSlot (now (bytes .entry)) k ⌝ }
+{
+    if bytes.len() != LENGTH {
+        return Slot::empty();
+    }
+    if k < 4 {
+        return slot_at(bytes, k);
+    }
+    Slot::empty()
 }
 
 // What 26 bytes mean: in the first two the packet number has the top three bits and the step number the low thirteen.

@@ -1,27 +1,18 @@
 -- `put_marks`: after i turns the first i marks are put.
-use Prim.Native.Nat.{ℕ, _+_, _-_, _<_, _≤_}
-use mathlib.Core.Bool.{Bool, true, false}
-use mathlib.Core.Path.{_≡_, refl, sym, ap, _∙_}
-use mathlib.Core.List.{List, map}
-use lib.ListN.{length, getD, set, take, length-map}
-use lib.Seq.{sets, take-suc, take-all}
-use native.Mathlib.Numerals.{add-one}
+use Prim.Native.Nat.{_+_, _-_, _≤_}
+use mathlib.Core.Bool.{false}
+use mathlib.Core.Path.{_≡_, refl, sym}
+use mathlib.Core.List.{map}
+use lib.ListN.{length, take, length-map}
 use native.Mathlib.Omega.{arith}
 use Rattle.kit.specs.Put.{Put}
-use Rattle.kit.proofs.Put.{put-then, put-as}
+use Rattle.kit.proofs.Put.{put-next, put-all}
 use Rattle.kit.proofs.Maps.{map-at}
 use Rattle.condition.specs.Slots.{slots}
 use Rattle.memory.specs.Memory.{marksFrom, flagByte, withMarks}
 use borrow.Author.Needs.{needs}
 use Rattle.memory.proofs.put_marks.Statement.{statement}
 use Rattle.memory.proofs.put_marks.Tie as tie
-
--- one mark more
-one-more : (marks : List Bool) (before memory : List ℕ) (i : ℕ) → i < length marks → Put before marksFrom (take i (map flagByte marks)) memory (marksFrom + i)
-    → Put before marksFrom (take (i + 1) (map flagByte marks)) (set memory (marksFrom + i) (flagByte (getD marks i false))) (marksFrom + (i + 1))
-one-more marks before memory i p so-far =
-    put-as (ap (λ n. take n (map flagByte marks)) (add-one i) ∙ take-suc (map flagByte marks) i 0 (omega (arith, length-map marks flagByte)))
-    (put-then so-far (record { stored = ap (λ b. set memory (marksFrom + i) b) (sym (map-at flagByte marks i false 0 p)); past = omega arith }))
 
 abbrev Inv-loop : tie.InvT-loop
 Inv-loop memory₀ marks i₀ memory i = (i ≤ slots) × Put memory₀ marksFrom (take i (map flagByte marks)) memory (marksFrom + i)
@@ -55,7 +46,7 @@ loop-again c =
     let l = c .before .loop in
     let marks = c .before .before .before .before .args .t2 in
     let all : length marks ≡ slots = search needs in
-    (search needs, one-more marks _ (l .memory) (l .i) (omega (arith, all)) (l .inv .1))
+    (search needs, put-next (map flagByte marks) marksFrom (l .i) (omega (arith, all, length-map marks flagByte)) (sym (map-at flagByte marks (l .i) false 0 (omega (arith, all)))) (l .inv .1))
 
 returns : tie.Need-returns Inv-loop μ-loop
 unfolding withMarks
@@ -64,7 +55,7 @@ returns c =
     let a = c .before .before .before .before .args in
     let all : length (a .t2) ≡ slots = search needs in
     let past : slots ≤ l .i = search needs in
-    l .inv .1 .stored ∙ ap (sets (a .memory .now) marksFrom) (take-all (l .i) (map flagByte (a .t2)) (omega (arith, length-map (a .t2) flagByte)))
+    put-all (map flagByte (a .t2)) (l .i) (omega (arith, length-map (a .t2) flagByte)) (l .inv .1)
 
 pub put-marks-spec : {M : Type 1} → statement M
 put-marks-spec =

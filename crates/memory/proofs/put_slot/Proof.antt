@@ -1,5 +1,4 @@
 -- `put_slot`: one of the twenty; past them lies the end of the memory.
-use Prim.Native.Nat.{ℕ}
 use mathlib.Core.Path.{_≡_, sym}
 use lib.ListN.{length}
 use native.Mathlib.Omega.{arith}

@@ -4,10 +4,9 @@ use mathlib.Core.Path.{_≡_, refl, sym, ap, _∙_}
 use mathlib.Core.Logic.{inr}
 use mathlib.Core.List.{List}
 use lib.ListN.{length, getD, set, take, drop, length-drop}
-use lib.Seq.{sets, take-suc, take-all, getD-drop, length-take-le}
-use native.Mathlib.Numerals.{add-one}
+use lib.Seq.{getD-drop, length-take-le}
 use native.Mathlib.Omega.{arith}
-use Rattle.kit.proofs.Put.{put-then, put-as}
+use Rattle.kit.proofs.Put.{put-next, put-all}
 use Rattle.kit.proofs.Stores.{sets-out}
 use Rattle.kit.specs.Put.{Put}
 use Rattle.memory.specs.Memory.{room, setFrom, withPicture}
@@ -15,20 +14,16 @@ use borrow.Author.Needs.{needs}
 use Rattle.memory.proofs.show.Statement.{statement}
 use Rattle.memory.proofs.show.Tie as tie
 
--- one byte more: it is read from behind what was put
-one-more : (before memory : List ℕ) (k : ℕ) → k < 140 → length before ≡ room → Put before 0 (take k (drop setFrom before)) memory k
-    → Put before 0 (take (k + 1) (drop setFrom before)) (set memory k (getD memory (setFrom + k) 0)) (k + 1)
-one-more before memory k p long so-far =
-    let part : length (drop setFrom before) ≡ 140 = omega (arith, length-drop setFrom before) in
-    let few : length (take k (drop setFrom before)) ≡ k = length-take-le k (drop setFrom before) (omega (arith, part)) in
-    let same : getD memory (setFrom + k) 0 ≡ getD (drop setFrom before) k 0 =
+-- the next byte is read from behind what was put
+next-byte : (before memory : List ℕ) (k : ℕ) → k < 140 → length before ≡ room → Put before 0 (take k (drop setFrom before)) memory (0 + k)
+    → getD memory (setFrom + k) 0 ≡ getD (drop setFrom before) k 0
+next-byte before memory k p long so-far =
+    let few : length (take k (drop setFrom before)) ≡ k = length-take-le k (drop setFrom before) (omega (arith, length-drop setFrom before)) in
     ap (λ l. getD l (setFrom + k) 0) (so-far .stored)
-    ∙ (sets-out 0 (take k (drop setFrom before)) before 0 (setFrom + k) (inr (omega (arith, few))) ∙ sym (getD-drop setFrom before k 0)) in
-    put-as (ap (λ n. take n (drop setFrom before)) (add-one k) ∙ take-suc (drop setFrom before) k 0 (omega (arith, part)))
-    (put-then so-far (record { stored = ap (λ b. set memory k b) same; past = refl }))
+    ∙ (sets-out 0 (take k (drop setFrom before)) before 0 (setFrom + k) (inr (omega (arith, few))) ∙ sym (getD-drop setFrom before k 0))
 
 abbrev Inv-loop : tie.InvT-loop
-Inv-loop memory₀ k₀ memory k = (k ≤ 140) × (length memory₀ ≡ room) × Put memory₀ 0 (take k (drop setFrom memory₀)) memory k
+Inv-loop memory₀ k₀ memory k = (k ≤ 140) × (length memory₀ ≡ room) × Put memory₀ 0 (take k (drop setFrom memory₀)) memory (0 + k)
 
 abbrev μ-loop : tie.MeasureT-loop
 μ-loop memory₀ k₀ memory k = 140 - k
@@ -42,6 +37,9 @@ add-memory c = search needs
 element-copy-out-memory : tie.Need-element-copy-out-memory Inv-loop μ-loop
 element-copy-out-memory c = search needs
 
+add-memory-2 : tie.Need-add-memory-2 Inv-loop μ-loop
+add-memory-2 c = search needs
+
 element-write-memory : tie.Need-element-write-memory Inv-loop μ-loop
 element-write-memory c = search needs
 
@@ -54,7 +52,9 @@ loop-less c = search needs
 loop-again : tie.Need-loop-again Inv-loop μ-loop
 loop-again c =
     let l = c .before .before .loop in
-    (search needs, l .inv .1, one-more _ (l .memory) (l .k) (search needs) (l .inv .1) (l .inv .2))
+    let before = c .before .before .before .before .before .args .memory .now in
+    let p : l .k < 140 = search needs in
+    (search needs, l .inv .1, put-next (drop setFrom before) 0 (l .k) (omega (arith, length-drop setFrom before, l .inv .1)) (next-byte before (l .memory) (l .k) p (l .inv .1) (l .inv .2)) (l .inv .2))
 
 returns : tie.Need-returns Inv-loop μ-loop
 unfolding withPicture
@@ -62,8 +62,7 @@ returns c =
     let l = c .before .loop in
     let memory = c .before .before .before .before .args .memory .now in
     let past : 140 ≤ l .k = search needs in
-    let part : length (drop setFrom memory) ≤ l .k = omega (arith, length-drop setFrom memory, l .inv .1, past) in
-    l .inv .2 .stored ∙ ap (sets memory 0) (take-all (l .k) (drop setFrom memory) part)
+    put-all (drop setFrom memory) (l .k) (omega (arith, length-drop setFrom memory, l .inv .1, past)) (l .inv .2)
 
 pub show-spec : {M : Type 1} → statement M
 show-spec =
@@ -74,6 +73,7 @@ show-spec =
     loop-holds
     add-memory
     element-copy-out-memory
+    add-memory-2
     element-write-memory
     add-k
     loop-less

@@ -1,0 +1,116 @@
+-- The rule of carried entries on the bytes of a listener's memory is the rule on its slots.
+use Prim.Native.Nat.{ℕ, _+_, _<_, _≤_}
+use mathlib.Core.Path.{_≡_, refl, sym, ap, ap₂, _∙_}
+use mathlib.Core.Logic.{_⊎_, inl, inr}
+use mathlib.Core.Bool.{Bool, true, false, not, _&&_}
+use mathlib.Core.List.{List}
+use lib.Dec.{eqb, leb}
+use lib.ListN.{length, getD, replicate, length-map, length-replicate}
+use lib.Seq.{ext-getD}
+use native.Mathlib.Omega.{arith}
+use borrow.Author.Tests.{eq-eqb, ne-eqb, le-leb, lt-leb}
+use Rattle.kit.specs.Loops.{any}
+use Rattle.kit.proofs.Cases.{on}
+use Rattle.kit.proofs.Each.{length-one-each, one-each-at}
+use Rattle.kit.proofs.Loops.{any-same, any-when}
+use Rattle.kit.proofs.Maps.{replicate-at}
+use Rattle.condition.specs.Slots.{isOccupied, slots}
+use Rattle.condition.specs.declared.slots.Slot.{Slot}
+use Rattle.telegram.specs.Tables.{tableSlot}
+use Rattle.memory.specs.Memory.{setFrom, slotPlace, slotAt, pictureIn, setIn}
+use Rattle.memory.proofs.Slots.{slot-in, length-table, slot-number, slot-occupied, slot-kind}
+use Rattle.marks.specs.Marks.{isSame, isKnown, isCarried, marksOf}
+use Rattle.marks.specs.Lent.{kindAt, hasBoth, isThere, allThere}
+use Rattle.marks.proofs.Carrying.{mark-at, none-carried}
+
+-- the slot whose bytes begin at `at`, occupied or not, is known when a slot of the picture has its number with its type
+module _ (memory : List ℕ) (at : ℕ) where
+  same-bytes : (j : ℕ) → j < slots → isSame (tableSlot (pictureIn memory) j) (slotAt memory at) ≡ hasBoth memory (getD memory at 0) (kindAt memory at) j
+  unfolding isSame
+  same-bytes j p =
+      ap (λ before. isSame before (slotAt memory at)) (slot-in memory 0 j p)
+      ∙ ap₂ _&&_ (ap₂ eqb (slot-number memory (slotPlace 0 j)) (slot-number memory at)) (ap₂ eqb (slot-kind memory (slotPlace 0 j)) (slot-kind memory at))
+
+  known-bytes : isKnown (pictureIn memory) (slotAt memory at) ≡ any (hasBoth memory (getD memory at 0) (kindAt memory at)) 0 slots
+  unfolding isKnown
+  known-bytes =
+      any-same (λ j. isSame (tableSlot (pictureIn memory) j) (slotAt memory at)) (hasBoth memory (getD memory at 0) (kindAt memory at)) 0 slots
+      (λ j low p. same-bytes j (omega arith))
+
+-- slot i of the set is occupied and known
+there-slot : (memory : List ℕ) (i : ℕ)
+    → isThere memory i ≡ isOccupied (slotAt memory (slotPlace setFrom i)) && isKnown (pictureIn memory) (slotAt memory (slotPlace setFrom i))
+unfolding isThere
+there-slot memory i = sym (ap₂ _&&_ (slot-occupied memory (slotPlace setFrom i)) (known-bytes memory (slotPlace setFrom i)))
+
+-- ---- what decides whether it is there
+
+module _ (memory : List ℕ) (i : ℕ) where
+  abbrev number : ℕ
+  number = getD memory (slotPlace setFrom i) 0
+
+  abbrev shape : ℕ
+  shape = getD memory (slotPlace setFrom i + 1) 0
+
+  pub there-empty : shape ≡ 0 → false ≡ isThere memory i
+  unfolding isThere
+  there-empty e = sym (rw (eq-eqb shape 0 e) refl)
+
+  module _ (occupied : shape ≡ 0 → ⊥) (kind : ℕ) (same : kind ≡ kindAt memory (slotPlace setFrom i)) where
+    pub there-known : (known : Bool) → known ≡ any (hasBoth memory number kind) 0 slots → known ≡ isThere memory i
+    unfolding isThere
+    there-known known e =
+        e
+        ∙ (ap (λ (k : ℕ). any (hasBoth memory number k) 0 slots) same
+        ∙ sym (ap (λ b. b && any (hasBoth memory number (kindAt memory (slotPlace setFrom i))) 0 slots) (ap not (ne-eqb shape 0 occupied))))
+
+    -- a slot that has both makes it there
+    pub there-here : i < slots → hasBoth memory number kind i ≡ true → true ≡ isThere memory i
+    there-here p both = there-known true (sym (any-when (hasBoth memory number kind) 0 slots i (omega arith) (omega arith) both))
+
+-- ---- marks
+
+module _ (memory : List ℕ) where
+  pub length-there : length (allThere memory) ≡ slots
+  unfolding allThere
+  length-there = length-one-each (isThere memory) slots
+
+  pub there-at : (i : ℕ) → i < slots → getD (allThere memory) i false ≡ isThere memory i
+  unfolding allThere
+  there-at i p = one-each-at (isThere memory) slots false i p
+
+module _ (limit gap : ℕ) (before : List Slot) (slot : Slot) where
+  -- within the limit, what is known is carried; over no gap, and over one past the limit, nothing is
+  carried-within : 1 ≤ gap → gap ≤ limit → isCarried limit gap before slot ≡ isOccupied slot && isKnown before slot
+  unfolding isCarried
+  carried-within low high = rw (le-leb 1 gap low, le-leb gap limit high) refl
+
+  carried-beyond : (gap ≡ 0) ⊎ (limit < gap) → isCarried limit gap before slot ≡ false
+  unfolding isCarried
+  carried-beyond (inl e) = ap (λ (n : ℕ). isCarried limit n before slot) e ∙ none-carried limit before slot
+  carried-beyond (inr e) = on (isOccupied slot) (λ o. on (leb 1 gap) (λ l. rw (o, l, lt-leb gap limit e) refl) (λ l. rw (o, l) refl)) (λ o. rw o refl)
+
+module _ (limit gap : ℕ) (memory : List ℕ) where
+  abbrev marks : List Bool
+  marks = marksOf limit gap (pictureIn memory) (setIn memory)
+
+  carried-at : (i : ℕ) → i < slots → getD marks i false ≡ isCarried limit gap (pictureIn memory) (slotAt memory (slotPlace setFrom i))
+  carried-at i p = mark-at limit gap (pictureIn memory) (setIn memory) i ∙ ap (isCarried limit gap (pictureIn memory)) (slot-in memory setFrom i p)
+
+  length-marks : length marks ≡ slots
+  unfolding marksOf
+  length-marks = length-map (setIn memory) (isCarried limit gap (pictureIn memory)) ∙ length-table memory setFrom
+
+  pub marks-there : 1 ≤ gap → gap ≤ limit → allThere memory ≡ marks
+  marks-there low high =
+      ext-getD false (allThere memory) marks (length-there memory ∙ sym length-marks)
+      (λ i p.
+      let q : i < slots = omega (arith, length-there memory) in
+      there-at memory i q ∙ (there-slot memory i ∙ sym (carried-at i q ∙ carried-within limit gap (pictureIn memory) (slotAt memory (slotPlace setFrom i)) low high)))
+
+  pub marks-none : (gap ≡ 0) ⊎ (limit < gap) → replicate slots false ≡ marks
+  marks-none out =
+      ext-getD false (replicate slots false) marks (length-replicate slots false ∙ sym length-marks)
+      (λ i p.
+      let q : i < slots = omega (arith, length-replicate slots false) in
+      replicate-at slots i false ∙ sym (carried-at i q ∙ carried-beyond limit gap (pictureIn memory) (slotAt memory (slotPlace setFrom i)) out))
