@@ -1,14 +1,16 @@
 // The listener: it hears telegrams of any bytes and holds the picture, the last table that it heard whole, with a mark at each
 // entry that was carried on from the picture before. Packets of a table that is not yet whole are the set in hand.
+//
+// It works in memory that is lent (`hear_in`), so that no table is handed over for a telegram. `Listener::hear` is the same by value.
 use condition::Slot;
 use hand::Hand;
 use last_step::Last;
-use telegram::Telegram;
-use wire::Verdict;
+use wire::STEPS;
+ghost use Prim.Native.Nat.{_≤_};
 ghost use mathlib.Core.Path.{_≡_};
-ghost use Rattle.telegram.specs.Telegrams.{readOf};
-ghost use Rattle.hand.specs.Sets.{begun};
-ghost use Rattle.listener.specs.Listeners.{carries, freshListener, holding, takenAnswer, takenBy, heardOf, hearOf};
+ghost use Rattle.telegram.specs.Telegrams.{packetIn, stepIn, telegramOf, readRefusal, readOf};
+ghost use Rattle.listener.specs.Listeners.{carries, freshListener, heardOf, hearOf};
+ghost use Rattle.listener.specs.Lent.{listenerIn, bytesOf, shiftedIn, LeftBy, HeardIn, takenLeft, judgedLeft, addedLeft};
 
 pub struct Listener {
     pub picture: [Slot; 20],
@@ -45,98 +47,103 @@ impl Listener {
             picture: [none; 20],
             marks: [false; 20],
             last: Last::Never,
-            hand: hand::begun(0),
-        }
-    }
-
-    // Hears a telegram of any bytes and any length.
-    pub fn hear(self, telegram: &[u8]) -> Heard
-        ensures { λ r. ⌜ r ≡ hearOf carries self (readOf (now (telegram .entry))) ⌝ }
-    {
-        let reading = telegram_reader::read(telegram);
-        let verdict = reading.verdict;
-        match verdict {
-            Verdict::Refused(number) => Heard {
-                answer: Answer::Refused(number),
-                listener: self,
+            hand: Hand {
+                step: 0,
+                held: [false; 5],
+                slots: [none; 20],
             },
-            Verdict::Accepted => listen(self, reading.telegram),
         }
     }
 }
 
-// The listener with another set in hand.
-fn holding(listener: Listener, hand: Hand) -> Listener
-    ensures { λ r. ⌜ r ≡ holding listener hand ⌝ }
+// The step number of a telegram.
+fn step_in(telegram: &[u8]) -> u16
+    ensures { λ r. ⌜ r ≡ stepIn (now (telegram .entry)) ⌝ }
 {
-    let picture = listener.picture;
-    let marks = listener.marks;
-    let last = listener.last;
-    Listener {
-        picture,
-        marks,
-        last,
-        hand,
-    }
+    wire::word_at(telegram, 0) % STEPS
+}
+
+// The packet number of a telegram.
+fn packet_in(telegram: &[u8]) -> u8
+    ensures { λ r. ⌜ (r ≡ packetIn (now (telegram .entry))) × (r ≤ 7) ⌝ }
+{
+    (wire::word_at(telegram, 0) / STEPS) as u8
+}
+
+// The set becomes the picture, and no set is in hand.
+fn shift(memory: &mut [u8; 310], step: u16, marks: [bool; 20])
+    ensures { λ _. ⌜ now (memory .exit) ≡ shiftedIn (now (memory .entry)) step marks ⌝ }
+{
+    memory::put_marks(memory, marks);
+    memory::show(memory);
+    last_step::take_step(memory, step);
+    hand::begin(memory, 0)
 }
 
 // A whole set is taken.
-fn take(listener: Listener, set: Hand) -> Heard
-    ensures { λ r. ⌜ r ≡ record { answer = takenAnswer listener set; listener = takenBy carries listener set } ⌝ }
+fn take(memory: &mut [u8; 310]) -> Answer
+    ensures { λ r. ⌜ record { answer = r; memory = now (memory .exit) } ≡ takenLeft carries (now (memory .entry)) ⌝ }
 {
-    let last = listener.last;
-    let gap = last_step::gap_from(last, set.step);
-    let before = listener.picture;
-    let slots = set.slots;
-    let marks = marks::marks_of(Listener::CARRIES, gap, before, slots);
-    let count = picture::count_of(slots);
-    Heard {
-        answer: Answer::Taken {
-            step: set.step,
-            count,
-            gap,
-        },
-        listener: Listener {
-            picture: slots,
-            marks,
-            last: Last::Step(set.step),
-            hand: hand::begun(0),
-        },
-    }
+    let step = hand::step_of(memory);
+    let last = last_step::last_in(memory);
+    let gap = last_step::gap_from(last, step);
+    let count = picture::count_of(memory);
+    let marks = marks::marks_of(Listener::CARRIES, gap, memory);
+    shift(memory, step, marks);
+    Answer::Taken { step, count, gap }
 }
 
-// A telegram that the reader accepted.
-fn listen(listener: Listener, telegram: Telegram) -> Heard
-    ensures { λ r. ⌜ r ≡ heardOf carries listener telegram ⌝ }
+// A whole set is refused, or taken.
+fn judge(memory: &mut [u8; 310]) -> Answer
+    ensures { λ r. ⌜ record { answer = r; memory = now (memory .exit) } ≡ judgedLeft carries (now (memory .entry)) ⌝ }
 {
-    let last = listener.last;
-    if last_step::is_last(last, telegram.step) {
-        return Heard {
-            answer: Answer::Repeat,
-            listener,
-        };
+    if picture::clashes(memory) {
+        hand::begin(memory, 0);
+        return Answer::Refused(15);
     }
-    let hand = listener.hand;
-    let set = hand::set_for(hand, telegram.step);
-    if hand::is_held(set, telegram.packet) {
-        return Heard {
-            answer: Answer::Repeat,
-            listener,
-        };
+    take(memory)
+}
+
+// A telegram goes into the set, which is judged once it is whole.
+fn add(memory: &mut [u8; 310], telegram: &[u8]) -> Answer
+    ensures { λ r. ⌜ record { answer = r; memory = now (memory .exit) } ≡ addedLeft carries (now (memory .entry)) (now (telegram .entry)) ⌝ }
+{
+    hand::join(memory, telegram);
+    if hand::is_whole(memory) {
+        return judge(memory);
     }
-    let with_it = hand::joined(set, telegram);
-    if !hand::is_whole(with_it) {
-        return Heard {
-            answer: Answer::Held,
-            listener: holding(listener, with_it),
-        };
+    Answer::Held
+}
+
+// A telegram that the reader accepts.
+fn listen(memory: &mut [u8; 310], telegram: &[u8]) -> Answer
+    requires { ⌜ readRefusal (now telegram) ≡ 0 ⌝ }
+    ensures { λ r. ⌜ LeftBy carries (heardOf carries (listenerIn (now (memory .entry))) (telegramOf (now (telegram .entry)))) (now (memory .entry)) (now (telegram .entry)) r (now (memory .exit)) ⌝ }
+{
+    let whole: &[u8] = memory;
+    let step = step_in(telegram);
+    let packet = packet_in(telegram);
+    let last = last_step::last_in(memory);
+    if last_step::is_last(last, step) {
+        return Answer::Repeat;
     }
-    let slots = with_it.slots;
-    if picture::clashes(slots) {
-        return Heard {
-            answer: Answer::Refused(15),
-            listener: holding(listener, hand::begun(0)),
-        };
+    if hand::step_of(memory) != step {
+        hand::begin(memory, step);
+        return add(memory, telegram);
     }
-    take(listener, with_it)
+    if hand::is_held(memory, packet) {
+        return Answer::Repeat;
+    }
+    add(memory, telegram)
+}
+
+// Hears a telegram of any bytes and any length, in lent memory.
+pub fn hear_in(memory: &mut [u8; 310], telegram: &[u8]) -> Answer
+    ensures { λ r. ⌜ HeardIn carries (now (memory .entry)) (now (telegram .entry)) r (now (memory .exit)) ⌝ }
+{
+    let refusal = telegram_reader::refusal_of(telegram);
+    if refusal != 0 {
+        return Answer::Refused(refusal);
+    }
+    listen(memory, telegram)
 }

@@ -1,57 +1,45 @@
--- `take`: the gap, the marks and the count are those of the set.
-use Prim.Native.Nat.{ℕ}
-use mathlib.Core.Bool.{Bool}
-use mathlib.Core.List.{List}
-use mathlib.Core.Path.{_≡_, ap, _∙_}
+-- `take`: what each part gave.
+use Rattle.listener.proofs.Lent.{taken-by}
 use borrow.Author.Needs.{needs}
-use Rattle.picture.specs.Pictures.{countOf}
-use Rattle.marks.specs.Marks.{marksOf}
-use Rattle.listener.specs.declared.Answer.the-variants.{Taken}
-use Rattle.listener.specs.declared.Heard.{Heard}
-use Rattle.last_step.specs.declared.Last.the-variants.{Step}
-use Rattle.listener.specs.declared.Listener.{Listener}
-use Rattle.hand.specs.declared.Hand.{Hand}
-use Rattle.hand.specs.Sets.{begun}
-use Rattle.last_step.specs.LastSteps.{gapFrom}
-use Rattle.listener.specs.Listeners.{carries, takenAnswer, takenBy}
 use Rattle.listener.proofs.take.Statement.{statement}
 use Rattle.listener.proofs.take.Tie as tie
 
-abbrev heard : Hand → ℕ → List Bool → ℕ → Hand → Heard
-heard set gap marks count hand =
-    record {
-      answer = Taken (set .step) count gap;
-      listener = record { picture = set .slots; marks = marks; last = Step (set .step); hand = hand };
-    }
+step-of-requires : tie.Need-step-of-requires
+step-of-requires c κs = search needs
 
-taken : (listener : Listener) (set hand : Hand) (gap count : ℕ) (marks : List Bool) → gap ≡ gapFrom (listener .last) (set .step)
-    → marks ≡ marksOf carries gap (listener .picture) (set .slots) → count ≡ countOf (set .slots) → hand ≡ begun 0
-    → heard set gap marks count hand ≡ record { answer = takenAnswer listener set; listener = takenBy carries listener set }
-unfolding takenBy
-taken listener set hand gap count marks g m n h =
-    let m′ = m ∙ ap (λ (x : ℕ). marksOf carries x (listener .picture) (set .slots)) g in
-    λ i. heard set (g i) (m′ i) (n i) (h i)
+last-in-requires : tie.Need-last-in-requires
+last-in-requires c κs = search needs
 
 gap-from-requires : tie.Need-gap-from-requires
 gap-from-requires c κs = search needs
 
-marks-of-requires : tie.Need-marks-of-requires
-marks-of-requires c κs = search needs
-
 count-of-requires : tie.Need-count-of-requires
 count-of-requires c κs = search needs
 
-begun-requires : tie.Need-begun-requires
-begun-requires c κs = search needs
+marks-of-requires : tie.Need-marks-of-requires
+marks-of-requires c κs = search needs
+
+shift-requires : tie.Need-shift-requires
+shift-requires c κs = search needs
 
 returns : tie.Need-returns
 returns c =
     let marked = c .before .before in
-    let asked = marked .before .before .before in
-    let a = asked .before .args in
-    taken (a .listener) (a .set) _ _ _ _ (asked .gap-from .ensures) (marked .marks-of .ensures) (c .before .count-of .ensures) (c .begun .ensures)
+    let counted = marked .before .before in
+    let gap = counted .before .before in
+    let last = gap .before in
+    let step = last .before .before in
+    let memory = step .before .before .args .memory .now in
+    taken-by memory _ _ _ _ _ _ (step .step-of .ensures) (last .last-in .ensures) (gap .gap-from .ensures) (counted .count-of .ensures) (marked .marks-of .ensures) (c .shift .ensures)
 
 pub take-spec : {M : Type 1} → statement M
 take-spec =
     tie.close
-    (tie.spec gap-from-requires marks-of-requires count-of-requires begun-requires returns)
+    (tie.spec
+    step-of-requires
+    last-in-requires
+    gap-from-requires
+    count-of-requires
+    marks-of-requires
+    shift-requires
+    returns)

@@ -1,0 +1,93 @@
+-- A listener in lent memory: which listener the bytes mean, the bytes of a listener, and which bytes stand there after a hearing. The rules
+-- of hearing are those of Listeners.antt; memory/specs/Memory.antt says where things stand.
+use Prim.Native.Nat.{ℕ}
+use mathlib.Core.Path.{_≡_}
+use mathlib.Core.Bool.{Bool, cond}
+use mathlib.Core.List.{List, _++_, map}
+use lib.Dec.{eqb}
+use Rattle.telegram.specs.Telegrams.{stepIn, readOf}
+use Rattle.memory.specs.Memory.{flagByte, tableBytes, pictureIn, marksIn, setIn, withMarks, withPicture}
+use Rattle.picture.specs.Pictures.{countOf, clashes}
+use Rattle.marks.specs.Marks.{marksOf}
+use Rattle.hand.specs.Lent.{handIn, handBytes, begunIn, joinedIn}
+use Rattle.hand.specs.Sets.{isWhole}
+use Rattle.last_step.specs.LastSteps.{gapFrom}
+use Rattle.last_step.specs.Lent.{lastIn, lastBytes, withLast}
+use Rattle.listener.specs.Listeners.{hearOf}
+use Rattle.listener.specs.declared.Answer.{Answer}
+use Rattle.listener.specs.declared.Answer.the-variants.{Refused, Repeat, Held, Taken}
+use Rattle.listener.specs.declared.Heard.{Heard}
+use Rattle.listener.specs.declared.Listener.{Listener}
+
+-- ---- what the memory means
+
+-- the listener
+unfoldable pub listenerIn : List ℕ → Listener
+listenerIn memory = record { picture = pictureIn memory; marks = marksIn memory; last = lastIn memory; hand = handIn memory }
+
+-- its bytes
+unfoldable pub bytesOf : Listener → List ℕ
+bytesOf listener =
+    tableBytes (listener .picture)
+    ++ (map flagByte (listener .marks) ++ (lastBytes (listener .last) ++ handBytes (listener .hand)))
+
+-- ---- which bytes stand there
+
+-- the memory that a telegram of this step number goes into: as it is if its set has that number, else with a set that begins
+unfoldable pub memoryFor : List ℕ → ℕ → List ℕ
+memoryFor memory step = cond (eqb (handIn memory .step) step) memory (begunIn memory step)
+
+-- that memory with the telegram in it
+abbrev pub withIt : List ℕ → List ℕ → List ℕ
+withIt memory telegram = joinedIn (memoryFor memory (stepIn telegram)) telegram
+
+-- the memory when its set, of this step number, has become the picture with these marks
+unfoldable pub shiftedIn : List ℕ → ℕ → List Bool → List ℕ
+shiftedIn memory step marks = begunIn (withLast (withPicture (withMarks memory marks)) step) 0
+
+-- the same with the step number and the marks that are the set's own
+unfoldable pub takenIn : ℕ → List ℕ → List ℕ
+takenIn limit memory =
+    shiftedIn memory (handIn memory .step) (marksOf limit (gapFrom (lastIn memory) (handIn memory .step)) (pictureIn memory) (setIn memory))
+
+-- the memory after an answer. Refusal 15 alone drops the set.
+abbrev pub memoryAfter : ℕ → Answer → List ℕ → List ℕ → List ℕ
+memoryAfter limit (Refused number) memory telegram = cond (eqb number 15) (begunIn (withIt memory telegram) 0) memory
+memoryAfter limit Repeat memory telegram = memory
+memoryAfter limit Held memory telegram = withIt memory telegram
+memoryAfter limit (Taken step count gap) memory telegram = takenIn limit (withIt memory telegram)
+
+-- What a hearing leaves: the answer and the listener that the memory then means are those of `heard`, and every byte is determined.
+pub record LeftBy (limit : ℕ) (heard : Heard) (memory telegram : List ℕ) (answer : Answer) (after : List ℕ) : Type 0 where
+  pub meant : _≡_ {A = Heard} (record { answer = answer; listener = listenerIn after }) heard
+  pub bytes : after ≡ memoryAfter limit answer memory telegram
+
+-- M-1b: hearing takes the listener that the memory means to the next one
+abbrev pub HeardIn : ℕ → List ℕ → List ℕ → Answer → List ℕ → Type 0
+HeardIn limit memory telegram answer after = LeftBy limit (hearOf limit (listenerIn memory) (readOf telegram)) memory telegram answer after
+
+-- ---- the parts of a hearing, on the memory
+
+-- an answer, and the memory after it
+pub record Left : Type 0 where
+  pub answer : Answer
+  pub memory : List ℕ
+
+-- a whole set is taken
+unfoldable pub takenLeft : ℕ → List ℕ → Left
+takenLeft limit memory =
+    record {
+      answer = Taken (handIn memory .step) (countOf (setIn memory)) (gapFrom (lastIn memory) (handIn memory .step));
+      memory = takenIn limit memory;
+    }
+
+-- a whole set is refused, or taken
+unfoldable pub judgedLeft : ℕ → List ℕ → Left
+judgedLeft limit memory = cond (clashes (setIn memory)) (record { answer = Refused 15; memory = begunIn memory 0 }) (takenLeft limit memory)
+
+-- a telegram goes into the set, which is judged once it is whole
+unfoldable pub addedLeft : ℕ → List ℕ → List ℕ → Left
+addedLeft limit memory telegram =
+    cond (isWhole (handIn (joinedIn memory telegram)))
+    (judgedLeft limit (joinedIn memory telegram))
+    (record { answer = Held; memory = joinedIn memory telegram })
