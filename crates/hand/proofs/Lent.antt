@@ -1,28 +1,33 @@
--- Which set the memory means when one begins and when a telegram went into it; and that neither touches what stands below the set.
+-- Which set the memory means when one begins, when a telegram went into it and when a set was put in by value; and that the first two
+-- touch nothing that stands below the set.
 use Prim.Native.Nat.{ℕ, zero, suc, _+_, _-_, _*_, _/_, _%_, _<_, _≤_}
 use mathlib.Core.Path.{_≡_, refl, sym, ap, _∙_}
 use mathlib.Core.Logic.{inl, inr}
 use mathlib.Core.Bool.{true, false}
-use mathlib.Core.List.{List, [], _∷_, _++_}
+use mathlib.Core.List.{List, [], _∷_, _++_, map}
 use lib.Dec.{eqb}
-use lib.ListN.{length, getD, set, replicate, length-set, length-replicate}
+use lib.ListN.{length, getD, set, replicate, length-set, length-replicate, length-map, length-append}
 use lib.Seq.{sets, length-sets, ext-getD, getD-set-same, getD-set-other}
 use native.Mathlib.Omega.{arith}
 use native.Mathlib.Nat.{add-zero}
 use borrow.Author.Tests.{eqb-true, eqb-false, eq-eqb, lt-ltb}
 use Rattle.kit.specs.Bytes.{word, wordBytes}
 use Rattle.kit.specs.Loops.{fold}
+use Rattle.kit.specs.Put.{Put}
 use Rattle.kit.proofs.Cases.{on}
 use Rattle.kit.proofs.Maps.{replicate-at}
+use Rattle.kit.proofs.Put.{put-then}
 use Rattle.kit.proofs.Stores.{sets-in, sets-out, stored-sets}
 use Rattle.condition.specs.Slots.{emptySlot, slots}
 use Rattle.telegram.specs.Tables.{packets, firstPacket, firstSlot}
 use Rattle.telegram.specs.Telegrams.{packetIn, slotAt, telegramOf}
 use Rattle.telegram_reader.specs.Places.{placeSlot}
-use Rattle.memory.specs.Memory.{room, slotRoom, stepFrom, heldFrom, setFrom, slotPlace, isSet, flagsAt, setIn, withSlot, slotBytes}
-use Rattle.memory.proofs.Slots.{slot-in, length-table, flag-in, length-flags, Same, same-out, table-same, slot-zero, word-back, length-with, set-with}
+use Rattle.memory.specs.Memory.{room, slotRoom, stepFrom, heldFrom, setFrom, slotPlace, isSet, flagByte, flagsAt, setIn, withSlot, slotBytes, tableBytes}
+use Rattle.memory.proofs.Back.{table-length, table-back, flags-back}
+use Rattle.memory.proofs.Slots.{slot-in, length-table, flag-in, length-flags, Same, same-out, table-same, flags-same, slot-zero, word-back, length-with, set-with}
 use Rattle.hand.specs.Sets.{begun, joined}
-use Rattle.hand.specs.Lent.{handIn, begunIn, fourIn, joinedIn}
+use Rattle.hand.specs.Lent.{handIn, handBytes, begunIn, fourIn, joinedIn}
+use Rattle.hand.specs.declared.Hand.{Hand}
 
 -- all that lies below the set: the picture, its marks and the step last taken
 abbrev pub Below : List ℕ → List ℕ → Type 0
@@ -191,3 +196,57 @@ module _ (memory telegram : List ℕ) where
           held = own-held t;
           slots = own-slots t;
         }
+
+-- ---- a set put in by value
+
+-- what stands before its slots
+abbrev pub frontBytes : Hand → List ℕ
+frontBytes hand = wordBytes (hand .step) ++ map flagByte (hand .held)
+
+module _ (hand : Hand) (five : length (hand .held) ≡ packets) where
+  front-length : length (frontBytes hand) ≡ 7
+  front-length = omega (arith, length-map (hand .held) flagByte, five)
+
+  pub hand-length : length (handBytes hand) ≡ 147
+  unfolding handBytes
+  hand-length = omega (arith, length-append (map flagByte (hand .held)) (tableBytes (hand .slots)), length-map (hand .held) flagByte, five, table-length (hand .slots))
+
+  module _ (memory : List ℕ) where
+    abbrev with-front : List ℕ
+    with-front = sets memory stepFrom (frontBytes hand)
+
+    -- first that, and then the slots
+    pub hand-parts : sets (sets memory stepFrom (frontBytes hand)) setFrom (tableBytes (hand .slots)) ≡ sets memory stepFrom (handBytes hand)
+    unfolding handBytes
+    hand-parts =
+        let before : Put memory stepFrom (frontBytes hand) with-front setFrom = record { stored = refl; past = omega (arith, front-length) } in
+        let after : Put with-front setFrom (tableBytes (hand .slots)) (sets with-front setFrom (tableBytes (hand .slots))) (setFrom + length (tableBytes (hand .slots))) =
+        record { stored = refl; past = refl } in
+        put-then before after .stored
+
+    module _ (long : length memory ≡ room) where
+      abbrev with-hand : List ℕ
+      with-hand = sets memory stepFrom (handBytes hand)
+
+      step-back : word (getD with-hand stepFrom 0) (getD with-hand (stepFrom + 1) 0) ≡ hand .step
+      unfolding handBytes
+      step-back =
+          let fits : stepFrom + length (handBytes hand) ≤ length memory = omega (arith, hand-length, long) in
+          let high : getD with-hand stepFrom 0 ≡ hand .step / 256 = sets-in 0 (handBytes hand) memory stepFrom 0 (omega (arith, hand-length)) fits in
+          let low : getD with-hand (stepFrom + 1) 0 ≡ hand .step % 256 = sets-in 0 (handBytes hand) memory stepFrom 1 (omega (arith, hand-length)) fits in
+          (λ t. word (high t) (low t)) ∙ word-back (hand .step)
+
+      held-back : flagsAt with-hand heldFrom packets ≡ hand .held
+      held-back =
+          let words = set (set memory stepFrom (hand .step / 256)) (stepFrom + 1) (hand .step % 256) in
+          let words-long : length words ≡ length memory = length-set (set memory stepFrom (hand .step / 256)) (stepFrom + 1) (hand .step % 256) ∙ length-set memory stepFrom (hand .step / 256) in
+          ap (λ l. flagsAt l heldFrom packets) (sym hand-parts)
+          ∙ (flags-same (sets with-front setFrom (tableBytes (hand .slots))) with-front heldFrom heldFrom packets (same-out (tableBytes (hand .slots)) with-front setFrom packets heldFrom (inl (omega arith)))
+          ∙ (ap (λ (n : ℕ). flagsAt with-front heldFrom n) (sym five) ∙ flags-back (hand .held) words heldFrom (omega (arith, words-long, long, five))))
+
+      pub hand-back : length (hand .slots) ≡ slots → handIn with-hand ≡ hand
+      unfolding handIn
+      hand-back twenty =
+          let slots-back : setIn with-hand ≡ hand .slots =
+          ap setIn (sym hand-parts) ∙ table-back (hand .slots) with-front setFrom twenty (omega (arith, length-sets memory stepFrom (frontBytes hand), long)) in
+          λ t. record { step = step-back t; held = held-back t; slots = slots-back t }

@@ -1,10 +1,14 @@
 // The set in hand, in the lent memory of a listener: the packets of one step that are held so far.
 ghost use mathlib.Core.Path.{_≡_};
+ghost use mathlib.Core.List.{_++_, map};
 ghost use Prim.Native.Nat.{_-_, _≤_};
-ghost use Rattle.telegram.specs.Tables.{firstPacket};
+ghost use lib.Seq.{sets};
+ghost use Rattle.kit.specs.Bytes.{wordBytes};
+ghost use Rattle.telegram.specs.Tables.{packets, firstPacket};
 ghost use Rattle.telegram.specs.Telegrams.{packetIn};
+ghost use Rattle.memory.specs.Memory.{stepFrom, heldFrom, flagByte, flagsAt};
 ghost use Rattle.hand.specs.Sets.{isHeld, isWhole};
-ghost use Rattle.hand.specs.Lent.{handIn, begunIn, fourIn, joinedIn};
+ghost use Rattle.hand.specs.Lent.{handIn, handBytes, begunIn, fourIn, joinedIn};
 use condition::Slot;
 use telegram::FIRST_PACKET;
 use wire::STEPS;
@@ -106,4 +110,50 @@ pub fn is_whole(memory: &[u8; 310]) -> bool
         k += 1;
     }
     true
+}
+
+// Which of the five packets are held.
+fn held_in(memory: &[u8; 310]) -> [bool; 5]
+    ensures { λ r. ⌜ r ≡ flagsAt (now (memory .entry)) heldFrom packets ⌝ }
+{
+    let mut held = [false; 5];
+    let mut k: usize = 0;
+    while k < PACKETS {
+        held[k] = memory[HELD + k] != 0;
+        k += 1;
+    }
+    held
+}
+
+// The set by value.
+pub fn hand_in(memory: &[u8; 310]) -> Hand
+    ensures { λ r. ⌜ r ≡ handIn (now (memory .entry)) ⌝ }
+{
+    let step = step_of(memory);
+    let held = held_in(memory);
+    let slots = memory::set_in(memory);
+    Hand { step, held, slots }
+}
+
+// The step number of a set, and which of the five packets are held.
+fn put_front(memory: &mut [u8; 310], step: u16, held: [bool; 5])
+    ensures { λ _. ⌜ now (memory .exit) ≡ sets (now (memory .entry)) stepFrom (wordBytes step ++ map flagByte held) ⌝ }
+{
+    memory[STEP] = (step / 256) as u8;
+    memory[STEP + 1] = (step % 256) as u8;
+    let mut k: usize = 0;
+    while k < PACKETS {
+        memory[HELD + k] = held[k] as u8;
+        k += 1;
+    }
+}
+
+// A set put into the memory.
+pub fn put_hand(memory: &mut [u8; 310], hand: Hand)
+    ensures { λ _. ⌜ now (memory .exit) ≡ sets (now (memory .entry)) stepFrom (handBytes hand) ⌝ }
+{
+    let held = hand.held;
+    let slots = hand.slots;
+    put_front(memory, hand.step, held);
+    memory::put_set(memory, slots)
 }

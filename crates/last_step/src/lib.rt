@@ -1,7 +1,9 @@
 // The step last taken: whether a telegram is of that step, and the gap from it to another.
 ghost use mathlib.Core.Path.{_≡_};
+ghost use lib.Seq.{sets};
+ghost use Rattle.memory.specs.Memory.{lastFrom};
 ghost use Rattle.last_step.specs.LastSteps.{isLast, gapFrom};
-ghost use Rattle.last_step.specs.Lent.{lastIn, withLast};
+ghost use Rattle.last_step.specs.Lent.{lastIn, lastBytes, withLast};
 
 // Where it stands in the lent memory of a listener.
 const LAST: usize = 160;
@@ -49,4 +51,18 @@ pub fn take_step(memory: &mut [u8; 310], step: u16)
     memory[LAST] = 1;
     memory[LAST + 1] = (step / 256) as u8;
     memory[LAST + 2] = (step % 256) as u8;
+}
+
+// The step last taken, or none, put into the memory.
+pub fn put_last(memory: &mut [u8; 310], last: Last)
+    ensures { λ _. ⌜ now (memory .exit) ≡ sets (now (memory .entry)) lastFrom (lastBytes last) ⌝ }
+{
+    match last {
+        Last::Never => {
+            memory[LAST] = 0;
+            memory[LAST + 1] = 0;
+            memory[LAST + 2] = 0;
+        }
+        Last::Step(step) => take_step(memory, step),
+    }
 }

@@ -54,6 +54,48 @@ impl Listener {
             },
         }
     }
+
+    // Hears a telegram of any bytes and any length.
+    pub fn hear(self, telegram: &[u8]) -> Heard
+        ensures { λ r. ⌜ r ≡ hearOf carries self (readOf (now (telegram .entry))) ⌝ }
+    {
+        let mut memory = memory_of(self);
+        let answer = hear_in(&mut memory, telegram);
+        let listener = listener_in(&memory);
+        Heard { answer, listener }
+    }
+}
+
+// The memory of a listener.
+pub fn memory_of(listener: Listener) -> [u8; 310]
+    ensures { λ r. ⌜ r ≡ bytesOf listener ⌝ }
+{
+    let mut memory = [0u8; 310];
+    let picture = listener.picture;
+    let marks = listener.marks;
+    let last = listener.last;
+    let hand = listener.hand;
+    memory::put_picture(&mut memory, picture);
+    memory::put_marks(&mut memory, marks);
+    last_step::put_last(&mut memory, last);
+    hand::put_hand(&mut memory, hand);
+    memory
+}
+
+// The listener that a memory means.
+pub fn listener_in(memory: &[u8; 310]) -> Listener
+    ensures { λ r. ⌜ r ≡ listenerIn (now (memory .entry)) ⌝ }
+{
+    let picture = memory::picture_in(memory);
+    let marks = memory::marks_in(memory);
+    let last = last_step::last_in(memory);
+    let hand = hand::hand_in(memory);
+    Listener {
+        picture,
+        marks,
+        last,
+        hand,
+    }
 }
 
 // The step number of a telegram.

@@ -1,16 +1,14 @@
-// The lines of a listing but for those of conditions, put into a lent buffer: the header, the line of a table, that of a refused telegram,
-// and the end.
+// The lines of a listing but for those of tables, put into a lent buffer: the header, the line of a refused telegram, and the end.
 ghost use Rattle.kit.specs.Put.{Poured};
-ghost use Rattle.listing_lines.specs.Lines.{headerLine, tableLine, refusedLine, endLine};
-
-const BLANK: u8 = b' ';
+ghost use Rattle.listing_lines.specs.Lines.{headerLine, refusedLine, endLine};
 
 const LINE_FEED: u8 = 10;
 
 // The first line. The 1 names this form of listing.
 pub const HEADER: [u8; 13] = *b"conditions 1\n";
 
-const TABLE: [u8; 6] = *b"table ";
+// The word that the line of a table begins with, which `listing_tables` puts.
+pub const TABLE: [u8; 6] = *b"table ";
 
 pub const REFUSED: [u8; 8] = *b"refused ";
 
@@ -20,16 +18,6 @@ pub fn put_header(listing: &mut [u8], at: usize) -> usize
     ensures { λ r. ⌜ Poured (now (listing .entry)) at headerLine (now (listing .exit)) r ⌝ }
 {
     text::put_words(listing, at, &HEADER)
-}
-
-// `table S K G`: the step number, how many conditions the table has, and the gap.
-pub fn put_table_line(step: u16, count: u8, gap: u16, listing: &mut [u8], at: usize) -> usize
-    ensures { λ r. ⌜ Poured (now (listing .entry)) at (tableLine step count gap) (now (listing .exit)) r ⌝ }
-{
-    let first = text::put_words(listing, at, &TABLE);
-    let second = listing_words::put_number(step as u64, BLANK, listing, first);
-    let third = listing_words::put_number(count as u64, BLANK, listing, second);
-    listing_words::put_number(gap as u64, LINE_FEED, listing, third)
 }
 
 // `refused N`.

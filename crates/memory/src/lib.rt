@@ -9,7 +9,7 @@ ghost use lib.ListN.{getD};
 ghost use lib.Seq.{sets};
 ghost use Rattle.kit.specs.Bytes.{wordBytes};
 ghost use Rattle.telegram.specs.Tables.{tableSlot};
-ghost use Rattle.memory.specs.Memory.{bodyFrom, slotAt, withSlot, withPicture, withMarks, pictureIn, setIn, marksIn, slotBytes};
+ghost use Rattle.memory.specs.Memory.{setFrom, bodyFrom, slotAt, tableAt, slotBytes, tableBytes, withSlot, withPicture, withMarks, pictureIn, setIn, marksIn};
 ghost use mathlib.Core.Bool.{false};
 
 // How many bytes the memory has.
@@ -71,16 +71,6 @@ pub fn shown_slot(memory: &[u8; 310], i: usize) -> Slot
     Slot::empty()
 }
 
-// Slot i of the set in hand.
-pub fn set_slot(memory: &[u8; 310], i: usize) -> Slot
-    ensures { λ r. ⌜ r ≡ tableSlot (setIn (now (memory .entry))) i ⌝ }
-{
-    if i < SLOTS {
-        return slot_at(memory, SET + SLOT * i);
-    }
-    Slot::empty()
-}
-
 // Whether slot i of the picture is marked as carried.
 pub fn is_marked(memory: &[u8; 310], i: usize) -> bool
     ensures { λ r. ⌜ r ≡ getD (marksIn (now (memory .entry))) i false ⌝ }
@@ -89,6 +79,47 @@ pub fn is_marked(memory: &[u8; 310], i: usize) -> bool
         return memory[MARKS + i] != 0;
     }
     false
+}
+
+// The table whose bytes begin at `from`.
+fn table_at(memory: &[u8; 310], from: usize) -> [Slot; 20]
+    requires { ⌜ from + 140 ≤ 310 ⌝ }
+    ensures { λ r. ⌜ r ≡ tableAt (now (memory .entry)) from ⌝ }
+{
+    let mut table = [Slot::empty(); 20];
+    let mut i: usize = 0;
+    while i < SLOTS {
+        table[i] = slot_at(memory, from + SLOT * i);
+        i += 1;
+    }
+    table
+}
+
+// The picture.
+pub fn picture_in(memory: &[u8; 310]) -> [Slot; 20]
+    ensures { λ r. ⌜ r ≡ pictureIn (now (memory .entry)) ⌝ }
+{
+    table_at(memory, PICTURE)
+}
+
+// The slots of the set in hand.
+pub fn set_in(memory: &[u8; 310]) -> [Slot; 20]
+    ensures { λ r. ⌜ r ≡ setIn (now (memory .entry)) ⌝ }
+{
+    table_at(memory, SET)
+}
+
+// Which slots of the picture are marked as carried.
+pub fn marks_in(memory: &[u8; 310]) -> [bool; 20]
+    ensures { λ r. ⌜ r ≡ marksIn (now (memory .entry)) ⌝ }
+{
+    let mut marks = [false; 20];
+    let mut i: usize = 0;
+    while i < SLOTS {
+        marks[i] = memory[MARKS + i] != 0;
+        i += 1;
+    }
+    marks
 }
 
 // Seven bytes.
@@ -140,6 +171,32 @@ pub fn put_slot(memory: &mut [u8; 310], i: usize, slot: Slot)
     if i < SLOTS {
         put_bytes(memory, SET + SLOT * i, slot);
     }
+}
+
+// The bytes of a table.
+fn put_table(memory: &mut [u8; 310], from: usize, table: [Slot; 20])
+    requires { ⌜ from + 140 ≤ 310 ⌝ }
+    ensures { λ _. ⌜ now (memory .exit) ≡ sets (now (memory .entry)) from (tableBytes table) ⌝ }
+{
+    let mut i: usize = 0;
+    while i < SLOTS {
+        put_bytes(memory, from + SLOT * i, table[i]);
+        i += 1;
+    }
+}
+
+// A table becomes the picture.
+pub fn put_picture(memory: &mut [u8; 310], table: [Slot; 20])
+    ensures { λ _. ⌜ now (memory .exit) ≡ sets (now (memory .entry)) 0 (tableBytes table) ⌝ }
+{
+    put_table(memory, PICTURE, table)
+}
+
+// A table becomes the slots of the set in hand.
+pub fn put_set(memory: &mut [u8; 310], table: [Slot; 20])
+    ensures { λ _. ⌜ now (memory .exit) ≡ sets (now (memory .entry)) setFrom (tableBytes table) ⌝ }
+{
+    put_table(memory, SET, table)
 }
 
 // The slots of the set in hand become the picture.

@@ -1,9 +1,14 @@
 // What the program read_signals writes: a line for each call, and one where the input ends inside a call.
+mod words;
+
 use signals::Answer;
 use signals::Updated;
 use train_telegram::National;
 use train_telegram::States;
+ghost use lib.ListN.{length};
+ghost use Prim.Native.Nat.{_+_, _≤_};
 ghost use Rattle.kit.specs.Put.{Poured};
+ghost use Rattle.page.specs.Pages.{Paged};
 ghost use Rattle.kit.specs.Each.{each};
 ghost use Rattle.signals_output.specs.Lines.{answerWords, missesWord, systemWord, stateWords, lineOf, shortLine};
 
@@ -12,65 +17,71 @@ const BLANK: u8 = 32;
 
 const LINE_FEED: u8 = 10;
 
-fn put_answer(answer: Answer, line: &mut [u8], at: usize) -> usize
-    ensures { λ r. ⌜ Poured (now (line .entry)) at (answerWords answer) (now (line .exit)) r ⌝ }
+fn put_answer(answer: Answer, page: &mut [u8], at: usize) -> usize
+    requires { ⌜ at + 16 ≤ length (now page) ⌝ }
+    ensures { λ r. ⌜ Paged 13 (now (page .entry)) at (answerWords answer) (now (page .exit)) r ⌝ }
 {
     match answer {
-        Answer::Accepted => text::put_words(line, at, b"accepted"),
-        Answer::Missed => text::put_words(line, at, b"missed"),
+        Answer::Accepted => page::put_short_text(page, at, b"accepted"),
+        Answer::Missed => page::put_short_text(page, at, b"missed"),
         Answer::Refused(number) => {
-            let next = text::put_words(line, at, b"refused ");
-            text::put_decimal(line, next, number as u64)
+            let next = page::put_short_text(page, at, b"refused ");
+            page::put_bare_number(page, next, number as u16)
         }
     }
 }
 
-fn put_misses(misses: u8, line: &mut [u8], at: usize) -> usize
-    ensures { λ r. ⌜ Poured (now (line .entry)) at (missesWord misses) (now (line .exit)) r ⌝ }
+fn put_misses(misses: u8, page: &mut [u8], at: usize) -> usize
+    requires { ⌜ at + 9 ≤ length (now page) ⌝ }
+    ensures { λ r. ⌜ Paged 6 (now (page .entry)) at (missesWord misses) (now (page .exit)) r ⌝ }
 {
-    let next = text::put_byte(line, at, BLANK);
-    text::put_decimal(line, next, misses as u64)
+    let next = page::put_byte(page, at, BLANK);
+    page::put_bare_number(page, next, misses as u16)
 }
 
 // The sixteen systems, from 1.
-fn put_national(national: [National; 16], line: &mut [u8], at: usize) -> usize
-    ensures { λ r. ⌜ Poured (now (line .entry)) at (each (systemWord national) 0 16) (now (line .exit)) r ⌝ }
+fn put_national(national: [National; 16], page: &mut [u8], at: usize) -> usize
+    requires { ⌜ at + 256 ≤ length (now page) ⌝ }
+    ensures { λ r. ⌜ Paged 256 (now (page .entry)) at (each (systemWord national) 0 16) (now (page .exit)) r ⌝ }
 {
-    let mut next = text::put_words(line, at, b"");
+    let mut next = at;
     let mut i: usize = 0;
     while i < 16 {
         let system = national[i];
         let isolation = system.isolation;
-        next = state_words::put_isolation(isolation, line, next);
+        next = words::put_isolation(isolation, page, next);
         i += 1;
     }
     next
 }
 
-fn put_states(states: States, line: &mut [u8], at: usize) -> usize
-    ensures { λ r. ⌜ Poured (now (line .entry)) at (stateWords states) (now (line .exit)) r ⌝ }
+fn put_states(states: States, page: &mut [u8], at: usize) -> usize
+    requires { ⌜ at + 304 ≤ length (now page) ⌝ }
+    ensures { λ r. ⌜ Paged 304 (now (page .entry)) at (stateWords states) (now (page .exit)) r ⌝ }
 {
     let cab = states.cab;
     let brake = states.brake;
     let national = states.national;
     let traction = states.traction;
-    let second = state_words::put_cab(cab, line, at);
-    let third = state_words::put_brake(brake, line, second);
-    let fourth = put_national(national, line, third);
-    state_words::put_traction(traction, line, fourth)
+    let second = words::put_cab(cab, page, at);
+    let third = words::put_brake(brake, page, second);
+    let fourth = put_national(national, page, third);
+    words::put_traction(traction, page, fourth)
 }
 
-// The answer to a call and the record after it.
+// The answer to a call and the record after it, made on a page and copied from it.
 pub fn put_line(updated: Updated, line: &mut [u8], at: usize) -> usize
     ensures { λ r. ⌜ Poured (now (line .entry)) at (lineOf updated) (now (line .exit)) r ⌝ }
 {
     let answer = updated.answer;
     let signals = updated.signals;
     let states = signals.states;
-    let second = put_answer(answer, line, at);
-    let third = put_misses(signals.misses, line, second);
-    let fourth = put_states(states, line, third);
-    text::put_byte(line, fourth, LINE_FEED)
+    let mut page = [0u8; 328];
+    let second = put_answer(answer, &mut page, 0);
+    let third = put_misses(signals.misses, &mut page, second);
+    let fourth = put_states(states, &mut page, third);
+    let end = page::put_byte(&mut page, fourth, LINE_FEED);
+    text::put_words(line, at, &page[0..end])
 }
 
 // `short call` and a line feed.

@@ -31,15 +31,6 @@ pub decimal-more : (n : ℕ) → 10 ≤ n → decimal n ≡ decimal (n / 10) ++ 
 unfolding decimal digits
 decimal-more n p = enough n (suc n) n (omega arith) (omega arith) ∙ rw (le-ltb n 10 p) (ap (λ l. l ++ digit n) (enough n (n / 10) (n / 10) (omega arith) (omega arith)))
 
-pub hexadecimal-none : (n : ℕ) → hexadecimal 0 n ≡ []
-unfolding hexadecimal
-hexadecimal-none n = refl
-
-pub hexadecimal-more : (k n : ℕ) → 1 ≤ k → hexadecimal k n ≡ hexadecimal (k - 1) (n / 16) ++ (hexDigit (n % 16) ∷ [])
-unfolding hexadecimal
-hexadecimal-more zero n p = absurd (omega arith)
-hexadecimal-more (suc k) n p = let e : k ≡ suc k - 1 = omega arith in ap (λ j. hexadecimal j (n / 16) ++ (hexDigit (n % 16) ∷ [])) e
-
 -- ---- how long they are
 
 pub hexadecimal-long : (k n : ℕ) → length (hexadecimal k n) ≡ k

@@ -1,11 +1,10 @@
-// Text in a lent buffer: bytes, words and numbers in decimal and hexadecimal, one after another. What has no room before the buffer's end is
+// Text in a lent buffer: bytes, words and numbers in decimal, one after another. What has no room before the buffer's end is
 // dropped, so that no function asks anything of its caller; each answers the place past what it put.
-ghost use mathlib.Core.Path.{_≡_};
 ghost use mathlib.Core.List.{[], _∷_};
-ghost use Prim.Native.Nat.{_<_};
-ghost use Rattle.kit.specs.Put.{Poured};
+ghost use lib.ListN.{length, take};
+ghost use Prim.Native.Nat.{_+_, _<_, _≤_};
+ghost use Rattle.kit.specs.Put.{Put, Poured};
 ghost use Rattle.text.specs.Decimals.{decimal};
-ghost use Rattle.text.specs.Hexadecimals.{hexadecimal, hexDigit};
 
 pub fn put_byte(buffer: &mut [u8], at: usize, byte: u8) -> usize
     ensures { λ r. ⌜ Poured (now (buffer .entry)) at (byte ∷ []) (now (buffer .exit)) r ⌝ }
@@ -17,26 +16,31 @@ pub fn put_byte(buffer: &mut [u8], at: usize, byte: u8) -> usize
     buffer.len()
 }
 
+// Words: one test says how many of their bytes have room.
 pub fn put_words(buffer: &mut [u8], at: usize, words: &[u8]) -> usize
     ensures { λ r. ⌜ Poured (now (buffer .entry)) at (now (words .entry)) (now (buffer .exit)) r ⌝ }
 {
-    let mut next = put_none(buffer, at);
-    let mut i: usize = 0;
-    while i < words.len() {
-        next = put_byte(buffer, next, words[i]);
-        i += 1;
-    }
-    next
-}
-
-// The place where something put at `at` begins: the buffer's end where that lies past it.
-fn put_none(buffer: &mut [u8], at: usize) -> usize
-    ensures { λ r. ⌜ Poured (now (buffer .entry)) at [] (now (buffer .exit)) r ⌝ }
-{
     if at < buffer.len() {
-        return at;
+        let room = buffer.len() - at;
+        if words.len() <= room {
+            return copy_words(buffer, at, words, words.len());
+        }
+        return copy_words(buffer, at, words, room);
     }
     buffer.len()
+}
+
+// The first bytes of words, so many, all of which have room.
+fn copy_words(buffer: &mut [u8], at: usize, words: &[u8], count: usize) -> usize
+    requires { ⌜ (at + count ≤ length (now buffer)) × (count ≤ length (now words)) ⌝ }
+    ensures { λ r. ⌜ Put (now (buffer .entry)) at (take count (now (words .entry))) (now (buffer .exit)) r ⌝ }
+{
+    let mut i: usize = 0;
+    while i < count {
+        buffer[at + i] = words[i];
+        i += 1;
+    }
+    at + count
 }
 
 // A number in decimal, without leading zeros.
@@ -48,26 +52,4 @@ pub fn put_decimal(buffer: &mut [u8], at: usize, number: u64) -> usize
     }
     let next = put_decimal(buffer, at, number / 10);
     put_byte(buffer, next, 48 + (number % 10) as u8)
-}
-
-// A digit of a number in hexadecimal: 0 to 9, a to f.
-fn hex_digit(digit: u8) -> u8
-    requires { ⌜ digit < 16 ⌝ }
-    ensures { λ r. ⌜ r ≡ hexDigit digit ⌝ }
-{
-    if digit < 10 {
-        return 48 + digit;
-    }
-    87 + digit
-}
-
-// The lowest so many digits of a number in hexadecimal, leading zeros too.
-pub fn put_hexadecimal(buffer: &mut [u8], at: usize, number: u32, digits: u8) -> usize
-    ensures { λ r. ⌜ Poured (now (buffer .entry)) at (hexadecimal digits number) (now (buffer .exit)) r ⌝ }
-{
-    if digits == 0 {
-        return put_none(buffer, at);
-    }
-    let next = put_hexadecimal(buffer, at, number / 16, digits - 1);
-    put_byte(buffer, next, hex_digit((number % 16) as u8))
 }

@@ -1,6 +1,6 @@
 -- `put_heard`: a table taken has its line and those of its slots; any other answer what `put_refusal` puts.
 use mathlib.Core.Path.{ap}
-use Rattle.kit.proofs.Put.{poured-as, poured-then}
+use Rattle.kit.proofs.Put.{poured-as}
 use Rattle.listener.specs.declared.Answer.{Answer}
 use Rattle.listing_tables.specs.Tables.{answerLines, heardLines}
 use Rattle.listing_tables.proofs.Others.{untaken}
@@ -19,20 +19,21 @@ same-length c = search needs
 
 returns : tie.Need-returns
 unfolding heardLines
-returns c = poured-as (untaken (c .before .before .before .before .before .before .args .heard .answer) (c .before .before .before .before .match .keys2) .1 (c .before .before .before .before .before .before .args .heard .listener .picture) (c .before .before .before .before .before .before .args .heard .listener .marks)) (c .before .before .put-refusal .ensures)
+returns c =
+    let heard = c .before .before .before .before .before .before .args .heard in
+    poured-as (untaken (heard .answer) (c .before .before .before .before .match .keys2) .1 (heard .listener .picture) (heard .listener .marks)) (c .before .before .put-refusal .ensures)
 
-put-table-line-requires : tie.Need-put-table-line-requires
-put-table-line-requires c κs = search needs
-
-put-picture-requires : tie.Need-put-picture-requires
-put-picture-requires c κs = search needs
+put-table-requires : tie.Need-put-table-requires
+put-table-requires c κs = search needs
 
 same-length-2 : tie.Need-same-length-2
 same-length-2 c = search needs
 
 returns-2 : tie.Need-returns-2
 unfolding heardLines
-returns-2 c = poured-as (ap (λ (a : Answer). answerLines a (c .before .before .before .before .before .before .before .before .before .before .before .before .before .before .before .args .heard .listener .picture) (c .before .before .before .before .before .before .before .before .before .before .before .before .before .before .before .args .heard .listener .marks)) (c .before .before .before .before .before .before .before .before .before .before .before .before .answer .given .1)) (poured-then (c .before .before .before .before .before .before .put-table-line .ensures) (c .before .before .put-picture .ensures))
+returns-2 c =
+    let heard = c .before .before .before .before .before .before .before .before .before .before .before .args .heard in
+    poured-as (ap (λ (a : Answer). answerLines a (heard .listener .picture) (heard .listener .marks)) (c .before .before .before .before .before .before .before .before .answer .given .1)) (c .before .before .put-table .ensures)
 
 pub put-heard-spec : {M : Type 1} → statement M
 put-heard-spec =
@@ -42,7 +43,6 @@ put-heard-spec =
     put-refusal-requires
     same-length
     returns
-    put-table-line-requires
-    put-picture-requires
+    put-table-requires
     same-length-2
     returns-2)

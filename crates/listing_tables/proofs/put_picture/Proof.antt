@@ -1,29 +1,25 @@
 -- `put_picture`: after i turns the lines of the first i slots are put.
-use Prim.Native.Nat.{_-_, _≤_}
-use mathlib.Core.Path.{_≡_, ap, sym, _∙_}
+use Prim.Native.Nat.{_*_, _-_, _≤_}
+use mathlib.Core.Path.{_≡_, refl, ap, sym}
+use native.Mathlib.Omega.{arith}
+use lib.ListN.{length}
 use Rattle.kit.specs.Each.{each}
-use Rattle.kit.specs.Put.{Poured}
-use Rattle.kit.proofs.Put.{poured-here, poured-then, poured-as, poured-each, poured-length}
+use Rattle.page.specs.Pages.{Paged}
+use Rattle.page.proofs.Pages.{paged-none, paged-as, paged-most, paged-each}
 use Rattle.listing_tables.specs.Tables.{entryAt, pictureLines}
 use borrow.Author.Needs.{needs}
 use Rattle.listing_tables.proofs.put_picture.Statement.{statement}
 use Rattle.listing_tables.proofs.put_picture.Tie as tie
 
 abbrev Inv-loop : tie.InvT-loop
-Inv-loop listing₀ at picture marks next₀ i₀ listing next i = (i ≤ 20) × Poured listing₀ next₀ (each (entryAt picture marks) 0 i) listing next
+Inv-loop page₀ at picture marks next₀ i₀ page next i = (i ≤ 20) × (length page ≡ length page₀) × Paged (37 * i) page₀ next₀ (each (entryAt picture marks) 0 i) page next
 
 abbrev μ-loop : tie.MeasureT-loop
-μ-loop listing₀ at picture marks next₀ i₀ listing next i = 20 - i
-
-slice-aggregate-put-words : tie.Need-slice-aggregate-put-words Inv-loop μ-loop
-slice-aggregate-put-words c = search needs
-
-put-words-requires : tie.Need-put-words-requires Inv-loop μ-loop
-put-words-requires c κs = search needs
+μ-loop page₀ at picture marks next₀ i₀ page next i = 20 - i
 
 loop-holds : tie.Need-loop-holds Inv-loop μ-loop
 unfolding each
-loop-holds c = (search needs, poured-here (c .before .before .put-words .ensures))
+loop-holds c = (search needs, refl, paged-none)
 
 mul-slot : tie.Need-mul-slot Inv-loop μ-loop
 mul-slot c = search needs
@@ -45,18 +41,20 @@ loop-less c = search needs
 
 loop-again : tie.Need-loop-again Inv-loop μ-loop
 loop-again c =
-    let l = c .before .before .before .before .before .before .loop in
-    (search needs, poured-each (entryAt (c .before .before .before .before .before .before .before .before .before .before .before .before .before .args .t1) (c .before .before .before .before .before .before .before .before .before .before .before .before .before .args .t2)) (l .i) (l .inv .1) (c .before .before .put-entry .ensures))
+    let l = c .before .before .before .before .before .before in
+    let args = l .before .before .args in
+    (search needs, search needs, paged-each (entryAt (args .t1) (args .t2)) (l .loop .i) (omega arith) (l .loop .inv .2) (c .before .before .put-entry .ensures))
 
 same-length : tie.Need-same-length Inv-loop μ-loop
-same-length c = poured-length (c .before .loop .inv .1) ∙ poured-length (c .before .before .before .before .put-words .ensures)
+same-length c = search needs
 
 returns : tie.Need-returns Inv-loop μ-loop
 unfolding pictureLines
 returns c =
-    let l = c .before .loop in
-    let all : l .i ≡ 20 = search needs in
-    poured-then (c .before .before .before .before .put-words .ensures) (poured-as (ap (each (entryAt (c .before .before .before .before .before .before .before .before .args .t1) (c .before .before .before .before .before .before .before .before .args .t2)) 0) (sym all)) (l .inv .1))
+    let l = c .before in
+    let args = l .before .before .args in
+    let all : l .loop .i ≡ 20 = search needs in
+    paged-as (ap (each (entryAt (args .t1) (args .t2)) 0) (sym all)) (paged-most (omega arith) (l .loop .inv .2))
 
 pub put-picture-spec : {M : Type 1} → statement M
 put-picture-spec =
@@ -64,8 +62,6 @@ put-picture-spec =
     (tie.spec
     Inv-loop
     μ-loop
-    slice-aggregate-put-words
-    put-words-requires
     loop-holds
     mul-slot
     array-copy-out-slot

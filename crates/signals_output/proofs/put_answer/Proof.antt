@@ -1,6 +1,7 @@
 -- `put_answer`: the words of the answer that the `match` found.
 use mathlib.Core.Path.{ap}
-use Rattle.kit.proofs.Put.{poured-as, poured-then}
+use native.Mathlib.Omega.{arith}
+use Rattle.page.proofs.Pages.{paged-as, paged-then, paged-most}
 use Rattle.signals_output.specs.Lines.{answerWords}
 use borrow.Author.Needs.{needs}
 use Rattle.signals_output.proofs.put_answer.Statement.{statement}
@@ -9,69 +10,72 @@ use Rattle.signals_output.proofs.put_answer.Tie as tie
 enum-told : tie.Need-enum-told
 enum-told c = search needs
 
-slice-aggregate-put-words : tie.Need-slice-aggregate-put-words
-slice-aggregate-put-words c = search needs
+slice-aggregate-put-short-text : tie.Need-slice-aggregate-put-short-text
+slice-aggregate-put-short-text c = search needs
 
-put-words-requires : tie.Need-put-words-requires
-put-words-requires c κs = search needs
+put-short-text-requires : tie.Need-put-short-text-requires
+put-short-text-requires c κs = search needs
 
 enum-told-2 : tie.Need-enum-told-2
 enum-told-2 c = search needs
 
-slice-aggregate-put-words-2 : tie.Need-slice-aggregate-put-words-2
-slice-aggregate-put-words-2 c = search needs
+slice-aggregate-put-short-text-2 : tie.Need-slice-aggregate-put-short-text-2
+slice-aggregate-put-short-text-2 c = search needs
 
-put-words-requires-2 : tie.Need-put-words-requires-2
-put-words-requires-2 c κs = search needs
+put-short-text-requires-2 : tie.Need-put-short-text-requires-2
+put-short-text-requires-2 c κs = search needs
 
 enum-known-answer : tie.Need-enum-known-answer
 enum-known-answer c = search needs
 
-slice-aggregate-put-words-3 : tie.Need-slice-aggregate-put-words-3
-slice-aggregate-put-words-3 c = search needs
+slice-aggregate-put-short-text-3 : tie.Need-slice-aggregate-put-short-text-3
+slice-aggregate-put-short-text-3 c = search needs
 
-put-words-requires-3 : tie.Need-put-words-requires-3
-put-words-requires-3 c κs = search needs
+put-short-text-requires-3 : tie.Need-put-short-text-requires-3
+put-short-text-requires-3 c κs = search needs
 
-cast-put-decimal : tie.Need-cast-put-decimal
-cast-put-decimal c = search needs
+cast-put-bare-number : tie.Need-cast-put-bare-number
+cast-put-bare-number c = search needs
 
-put-decimal-requires : tie.Need-put-decimal-requires
-put-decimal-requires c κs = search needs
+put-bare-number-requires : tie.Need-put-bare-number-requires
+put-bare-number-requires c κs = search needs
 
 same-length : tie.Need-same-length
 same-length c = search needs
 
 returns : tie.Need-returns
-returns c = poured-as (ap answerWords (c .before .before .before .before .before .enum-told .given .1)) (c .before .before .put-words .ensures)
+returns c = paged-as (ap answerWords (c .before .before .before .before .before .enum-told .given .1)) (paged-most (omega arith) (c .before .before .put-short-text .ensures .paged (omega arith)))
 
 same-length-2 : tie.Need-same-length-2
 same-length-2 c = search needs
 
 returns-2 : tie.Need-returns-2
-returns-2 c = poured-as (ap answerWords (c .before .before .before .before .before .enum-told2 .given .1)) (c .before .before .put-words2 .ensures)
+returns-2 c = paged-as (ap answerWords (c .before .before .before .before .before .enum-told2 .given .1)) (paged-most (omega arith) (c .before .before .put-short-text2 .ensures .paged (omega arith)))
 
 same-length-3 : tie.Need-same-length-3
 same-length-3 c = search needs
 
 returns-3 : tie.Need-returns-3
-returns-3 c = poured-as (ap answerWords (c .before .before .before .before .before .before .before .before .before .before .answer .given .1)) (poured-then (c .before .before .before .before .before .before .put-words3 .ensures) (c .before .before .put-decimal .ensures))
+returns-3 c =
+    let first = c .before .before .before .before .before .before .put-short-text3 .ensures .paged (omega arith) in
+    let second = c .before .before .put-bare-number .ensures .paged (omega arith) in
+    paged-as (ap answerWords (c .before .before .before .before .before .before .before .before .before .before .answer .given .1)) (paged-then first second)
 
 pub put-answer-spec : {M : Type 1} → statement M
 put-answer-spec =
     tie.close
     (tie.spec
     enum-told
-    slice-aggregate-put-words
-    put-words-requires
+    slice-aggregate-put-short-text
+    put-short-text-requires
     enum-told-2
-    slice-aggregate-put-words-2
-    put-words-requires-2
+    slice-aggregate-put-short-text-2
+    put-short-text-requires-2
     enum-known-answer
-    slice-aggregate-put-words-3
-    put-words-requires-3
-    cast-put-decimal
-    put-decimal-requires
+    slice-aggregate-put-short-text-3
+    put-short-text-requires-3
+    cast-put-bare-number
+    put-bare-number-requires
     same-length
     returns
     same-length-2

@@ -1,29 +1,25 @@
 -- `put_national`: after i turns the words of the first i systems are put.
-use Prim.Native.Nat.{_-_, _≤_}
-use mathlib.Core.Path.{_≡_, ap, sym, _∙_}
-use borrow.Author.Needs.{needs}
+use Prim.Native.Nat.{_*_, _-_, _≤_}
+use mathlib.Core.Path.{_≡_, refl, ap, sym}
+use native.Mathlib.Omega.{arith}
+use lib.ListN.{length}
 use Rattle.kit.specs.Each.{each}
-use Rattle.kit.specs.Put.{Poured}
-use Rattle.kit.proofs.Put.{poured-here, poured-then, poured-as, poured-each, poured-length}
+use Rattle.page.specs.Pages.{Paged}
+use Rattle.page.proofs.Pages.{paged-none, paged-as, paged-most, paged-each}
 use Rattle.signals_output.specs.Lines.{systemWord}
+use borrow.Author.Needs.{needs}
 use Rattle.signals_output.proofs.put_national.Statement.{statement}
 use Rattle.signals_output.proofs.put_national.Tie as tie
 
 abbrev Inv-loop : tie.InvT-loop
-Inv-loop line₀ at national next₀ i₀ line next i = (i ≤ 16) × Poured line₀ next₀ (each (systemWord national) 0 i) line next
+Inv-loop page₀ at national next₀ i₀ page next i = (i ≤ 16) × (length page ≡ length page₀) × Paged (16 * i) page₀ next₀ (each (systemWord national) 0 i) page next
 
 abbrev μ-loop : tie.MeasureT-loop
-μ-loop line₀ at national next₀ i₀ line next i = 16 - i
-
-slice-aggregate-put-words : tie.Need-slice-aggregate-put-words Inv-loop μ-loop
-slice-aggregate-put-words c = search needs
-
-put-words-requires : tie.Need-put-words-requires Inv-loop μ-loop
-put-words-requires c κs = search needs
+μ-loop page₀ at national next₀ i₀ page next i = 16 - i
 
 loop-holds : tie.Need-loop-holds Inv-loop μ-loop
 unfolding each
-loop-holds c = (search needs, poured-here (c .before .before .put-words .ensures))
+loop-holds c = (search needs, refl, paged-none)
 
 array-copy-out-system : tie.Need-array-copy-out-system Inv-loop μ-loop
 array-copy-out-system c = search needs
@@ -39,17 +35,17 @@ loop-less c = search needs
 
 loop-again : tie.Need-loop-again Inv-loop μ-loop
 loop-again c =
-    let l = c .before .before .before .before .before .before .loop in
-    (search needs, poured-each (systemWord (c .before .before .before .before .before .before .before .before .before .before .before .before .before .args .t1)) (l .i) (l .inv .1) (c .before .before .put-isolation .ensures))
+    let l = c .before .before .before .before .before .before in
+    (search needs, search needs, paged-each (systemWord (l .before .before .args .t1)) (l .loop .i) (omega arith) (l .loop .inv .2) (c .before .before .put-isolation .ensures))
 
 same-length : tie.Need-same-length Inv-loop μ-loop
-same-length c = poured-length (c .before .loop .inv .1) ∙ poured-length (c .before .before .before .before .put-words .ensures)
+same-length c = search needs
 
 returns : tie.Need-returns Inv-loop μ-loop
 returns c =
-    let l = c .before .loop in
-    let all : l .i ≡ 16 = search needs in
-    poured-then (c .before .before .before .before .put-words .ensures) (poured-as (ap (each (systemWord (c .before .before .before .before .before .before .before .before .args .t1)) 0) (sym all)) (l .inv .1))
+    let l = c .before in
+    let all : l .loop .i ≡ 16 = search needs in
+    paged-as (ap (each (systemWord (l .before .before .args .t1)) 0) (sym all)) (paged-most (omega arith) (l .loop .inv .2))
 
 pub put-national-spec : {M : Type 1} → statement M
 put-national-spec =
@@ -57,8 +53,6 @@ put-national-spec =
     (tie.spec
     Inv-loop
     μ-loop
-    slice-aggregate-put-words
-    put-words-requires
     loop-holds
     array-copy-out-system
     put-isolation-requires

@@ -1,5 +1,5 @@
--- `put_states`: signal by signal, one after another.
-use Rattle.kit.proofs.Put.{poured-then}
+-- `put_states`: cab, brake position, the sixteen systems and the traction systems, one after another.
+use Rattle.page.proofs.Pages.{paged-then}
 use Rattle.signals_output.specs.Lines.{stateWords}
 use borrow.Author.Needs.{needs}
 use Rattle.signals_output.proofs.put_states.Statement.{statement}
@@ -22,7 +22,9 @@ same-length c = search needs
 
 returns : tie.Need-returns
 unfolding stateWords
-returns c = poured-then (c .before .before .before .before .before .before .before .before .before .before .before .before .before .before .put-cab .ensures) (poured-then (c .before .before .before .before .before .before .before .before .before .before .put-brake .ensures) (poured-then (c .before .before .before .before .before .before .put-national .ensures) (c .before .before .put-traction .ensures)))
+returns c =
+    paged-then (c .before .before .before .before .before .before .before .before .before .before .before .before .before .before .put-cab .ensures)
+    (paged-then (c .before .before .before .before .before .before .before .before .before .before .put-brake .ensures) (paged-then (c .before .before .before .before .before .before .put-national .ensures) (c .before .before .put-traction .ensures)))
 
 pub put-states-spec : {M : Type 1} → statement M
 put-states-spec =
