@@ -1,2 +1,3 @@
 pub mod Hearings
+pub mod Lent
 pub mod Pieces

@@ -2,13 +2,19 @@
 // has no room in the lent buffer is dropped, and the answer is the place past what was put.
 use listener::Listener;
 use telegram::LENGTH;
-ghost use Prim.Native.Nat.{_+_, _-_, _≤_, min};
+ghost use Prim.Native.Nat.{_+_, _-_, _*_, _/_, _≤_, min};
 ghost use mathlib.Core.Path.{_≡_};
 ghost use mathlib.Core.List.{[], _∷_};
 ghost use lib.ListN.{length};
 ghost use Rattle.kit.specs.Put.{Poured};
-ghost use Rattle.lister.specs.Hearings.{linesFor};
+ghost use mathlib.Core.Bool.{cond};
+ghost use mathlib.Core.Logic.{_⊎_};
+ghost use lib.Dec.{eqb};
+ghost use Rattle.listener.specs.Lent.{listenerIn};
+ghost use Rattle.listing_tables.specs.Tables.{heardLines};
+ghost use Rattle.lister.specs.Hearings.{heard, linesFor};
 ghost use Rattle.lister.specs.Pieces.{mostTables, begun, keeping, takeOf, linesOf, Made};
+ghost use Rattle.lister.specs.Lent.{HeardNext};
 
 // What is kept from one piece to the next: the listener, how many tables it has taken, and the first bytes of a telegram that is not
 // yet whole; zeros follow them.
@@ -25,6 +31,12 @@ pub struct Listed {
     pub at: usize,
 }
 
+// How many tables were taken after one telegram more, and the place past its lines.
+struct Next {
+    tables: u64,
+    at: usize,
+}
+
 impl Lister {
     // Before any piece.
     pub fn begun() -> Self
@@ -38,32 +50,29 @@ impl Lister {
         }
     }
 
-    // Hears the telegrams that become whole with this piece, and keeps the bytes that are left.
+    // Hears the telegrams that become whole with this piece, and keeps the bytes that are left. First those bytes that the telegram in
+    // hand still lacks, then telegrams that lie whole in the piece, and then what is left.
     pub fn take(self, piece: &[u8], listing: &mut [u8], at: usize) -> Listed
         requires { ⌜ Made self ⌝ }
         ensures { λ r. ⌜ (r .lister ≡ takeOf self (now (piece .entry))) × Poured (now (listing .entry)) at (linesOf self (now (piece .entry))) (now (listing .exit)) (r .at) ⌝ }
     {
-        let mut lister = self;
-        let mut next = text::put_words(listing, at, b"");
-        let mut from: usize = 0;
-        while from < piece.len() {
-            let end = bite_end(lister.kept, from, piece.len());
-            let listed = bite(lister, &piece[from..end], listing, next);
-            lister = listed.lister;
-            next = listed.at;
-            from = end;
-        }
-        Listed { lister, at: next }
+        let end = lacking(self.kept, piece.len());
+        let listed = bite(self, &piece[0..end], listing, at);
+        let lister = listed.lister;
+        take_rest(lister, &piece[end..], listing, listed.at)
     }
 }
 
-// Where the bytes end that the telegram in hand still lacks, or the piece, whichever comes first.
-fn bite_end(kept: usize, from: usize, length: usize) -> usize
-    requires { ⌜ (kept ≤ 26) × (from ≤ length) ⌝ }
-    ensures { λ r. ⌜ r ≡ min (from + (26 - kept)) length ⌝ }
+// How many bytes of a piece the telegram in hand still lacks: none where none is begun, all where they do not make it whole.
+fn lacking(kept: usize, length: usize) -> usize
+    requires { ⌜ kept ≤ 26 ⌝ }
+    ensures { λ r. ⌜ r ≡ cond (eqb kept 0) 0 (min (26 - kept) length) ⌝ }
 {
-    if LENGTH - kept < length - from {
-        return from + (LENGTH - kept);
+    if kept == 0 {
+        return 0;
+    }
+    if LENGTH - kept < length {
+        return LENGTH - kept;
     }
     length
 }
@@ -78,25 +87,81 @@ fn tally(tables: u64, more: u64) -> u64
     tables + more
 }
 
+// Hears one telegram in lent memory, and puts its lines.
+fn hear_next(
+    memory: &mut [u8; 310],
+    tables: u64,
+    telegram: &[u8],
+    listing: &mut [u8],
+    at: usize,
+) -> Next
+    ensures { λ r. ⌜ HeardNext (heard (listenerIn (now (memory .entry))) (now (telegram .entry))) tables (listenerIn (now (memory .exit))) (r .tables) × Poured (now (listing .entry)) at (heardLines (heard (listenerIn (now (memory .entry))) (now (telegram .entry)))) (now (listing .exit)) (r .at) ⌝ }
+{
+    let answer = listener::hear_in(memory, telegram);
+    let tables = tally(tables, listing_tables::tables_of(answer));
+    let next = listing_tables::put_heard(answer, memory, listing, at);
+    Next { tables, at: next }
+}
+
 // Hears one telegram; nothing is left of it.
 fn hear_one(lister: Lister, telegram: &[u8], listing: &mut [u8], at: usize) -> Listed
     ensures { λ r. ⌜ (r .lister ≡ keeping lister (now (telegram .entry) ∷ []) []) × Poured (now (listing .entry)) at (linesFor (lister .listener) (now (telegram .entry) ∷ [])) (now (listing .exit)) (r .at) ⌝ }
 {
     let listener = lister.listener;
-    let heard = listener.hear(telegram);
-    let answer = heard.answer;
-    let tables = tally(lister.tables, listing_tables::tables_of(answer));
-    let next = listing_tables::put_heard(heard, listing, at);
-    let listener = heard.listener;
+    let mut memory = listener::memory_of(listener);
+    let next = hear_next(&mut memory, lister.tables, telegram, listing, at);
+    let listener = listener::listener_in(&memory);
+    Listed {
+        lister: Lister {
+            listener,
+            tables: next.tables,
+            tail: [0u8; 26],
+            kept: 0,
+        },
+        at: next.at,
+    }
+}
+
+// Hears telegrams that lie whole in a piece, one after another, where none is begun. The listener stands in lent memory from the first to
+// the last.
+fn take_whole(lister: Lister, bytes: &[u8], listing: &mut [u8], at: usize) -> Listed
+    requires { ⌜ Made lister × ((lister .kept ≡ 0) ⊎ (length (now bytes) ≡ 0)) × (length (now bytes) ≡ length (now bytes) / 26 * 26) ⌝ }
+    ensures { λ r. ⌜ (r .lister ≡ takeOf lister (now (bytes .entry))) × Poured (now (listing .entry)) at (linesOf lister (now (bytes .entry))) (now (listing .exit)) (r .at) ⌝ }
+{
+    let listener = lister.listener;
+    let tail = lister.tail;
+    let mut memory = listener::memory_of(listener);
+    let mut tables = lister.tables;
+    let mut next = text::put_words(listing, at, b"");
+    let mut from: usize = 0;
+    while from < bytes.len() {
+        let end = from + LENGTH;
+        let heard = hear_next(&mut memory, tables, &bytes[from..end], listing, next);
+        tables = heard.tables;
+        next = heard.at;
+        from = end;
+    }
+    let listener = listener::listener_in(&memory);
     Listed {
         lister: Lister {
             listener,
             tables,
-            tail: [0u8; 26],
-            kept: 0,
+            tail,
+            kept: lister.kept,
         },
         at: next,
     }
+}
+
+// Takes a piece where no telegram is begun, or an empty one.
+fn take_rest(lister: Lister, piece: &[u8], listing: &mut [u8], at: usize) -> Listed
+    requires { ⌜ Made lister × ((lister .kept ≡ 0) ⊎ (length (now piece) ≡ 0)) ⌝ }
+    ensures { λ r. ⌜ (r .lister ≡ takeOf lister (now (piece .entry))) × Poured (now (listing .entry)) at (linesOf lister (now (piece .entry))) (now (listing .exit)) (r .at) ⌝ }
+{
+    let end = piece.len() / LENGTH * LENGTH;
+    let listed = take_whole(lister, &piece[0..end], listing, at);
+    let lister = listed.lister;
+    bite(lister, &piece[end..], listing, listed.at)
 }
 
 // Takes a piece that is not longer than what the telegram in hand still lacks.

@@ -32,7 +32,10 @@ same-length : tie.Need-same-length
 same-length c = search needs
 
 returns : tie.Need-returns
-returns c = paged-poured (paged-then (c .before .before .before .before .before .before .before .before .before .before .put-table-line .ensures) (c .before .before .before .before .before .before .before .put-picture .ensures)) (c .before .before .put-words .ensures)
+returns c =
+    let copy = c .before .before in
+    let picture = copy .before .before .before .before .before in
+    paged-poured (paged-then (picture .before .before .before .put-table-line .ensures) (picture .put-picture .ensures)) (copy .put-words .ensures)
 
 pub put-table-spec : {M : Type 1} → statement M
 put-table-spec =
