@@ -1,21 +1,25 @@
 -- A piece taken in parts: one after another they are the whole; where no telegram is begun, telegrams that lie whole in it are heard one by
 -- one; and when a telegram has become whole, none is begun.
-use Prim.Native.Nat.{ℕ, zero, suc, _+_, _-_, _*_, _/_, _<_, _≤_, min}
+use Prim.Native.Nat.{ℕ, _+_, _-_, _*_, _/_, _<_, _≤_, min}
 use mathlib.Core.Path.{_≡_, refl, ap, sym, _∙_, subst, subst⁻¹}
 use mathlib.Core.Logic.{_⊎_, inl, inr}
+use mathlib.Core.Bool.{cond}
 use mathlib.Core.List.{List, [], _∷_, _++_}
+use lib.Dec.{eqb, ltb}
 use lib.ListN.{length, take, drop, length-take, length-drop, length-append}
 use lib.Seq.{take-add, take-all}
 use native.Mathlib.Omega.{arith}
+use borrow.Author.Tests.{eqb-true, ltb-true, ltb-false}
 use Rattle.kit.specs.Put.{Poured}
+use Rattle.kit.proofs.Cases.{on}
 use Rattle.kit.proofs.Put.{poured-as, poured-then}
 use Rattle.listener.specs.declared.Listener.{Listener}
-use Rattle.listing_tables.specs.Tables.{heardLines, tablesOf}
-use Rattle.lister.specs.Hearings.{telegramLength, heard, telegrams, tailOf, linesFor}
+use Rattle.listing_tables.specs.Tables.{heardLines}
+use Rattle.lister.specs.Hearings.{heard, telegrams, tailOf, linesFor}
 use Rattle.lister.specs.Lent.{HeardNext}
-use Rattle.lister.specs.Pieces.{mostTables, padded, joined, keeping, takeOf, linesOf, Made, taken}
+use Rattle.lister.specs.Pieces.{padded, keeping, takeOf, linesOf, Made, taken}
 use Rattle.lister.specs.declared.Lister.{Lister}
-use Rattle.lister.proofs.Kept.{Kept, state, made-kept, joined-kept, take-then, lines-of-then, take-one, lines-one, take-none, heard-one, lines-of-one}
+use Rattle.lister.proofs.Kept.{Kept, state, made-kept, joined-kept, take-then, lines-of-then, take-one, lines-one, heard-one, lines-of-one}
 
 -- ---- one part after another
 
@@ -106,3 +110,72 @@ none-after {lister} k bytes whole =
 pub none-left : {lister : Lister} {kept : List ℕ} → Kept lister kept → (bytes : List ℕ) → length (kept ++ bytes) ≡ 26 → takeOf lister bytes .kept ≡ 0
 unfolding keeping
 none-left k bytes whole = ap (λ (l : Lister). l .kept) (take-one k bytes whole)
+
+-- ---- the three parts of a piece
+
+-- how many of its bytes are telegrams that lie whole in it
+module _ (lister : Lister) (piece : List ℕ) (m : Made lister) (begun : (lister .kept ≡ 0) ⊎ (length piece ≡ 0)) where
+  abbrev whole : ℕ
+  whole = length piece / 26 * 26
+
+  whole-length : length (first lister piece whole) ≡ whole
+  whole-length = omega (arith, length-take (whole - 0) piece)
+
+  pub whole-begun : (lister .kept ≡ 0) ⊎ (length (first lister piece whole) ≡ 0)
+  whole-begun = go begun
+    where
+      go : (lister .kept ≡ 0) ⊎ (length piece ≡ 0) → (lister .kept ≡ 0) ⊎ (length (first lister piece whole) ≡ 0)
+      go (inl none) = inl none
+      go (inr empty) = inr (omega (arith, whole-length))
+
+  pub whole-even : length (first lister piece whole) ≡ length (first lister piece whole) / 26 * 26
+  whole-even = omega (arith, whole-length)
+
+  pub whole-left : {between : Lister} → between ≡ takeOf lister (first lister piece whole) → between .kept + length (second lister piece whole) ≤ 26
+  whole-left {between} same = go begun
+    where
+      few : length (second lister piece whole) < 26
+      few = omega (arith, length-take (length piece - whole) (drop whole piece), length-drop whole piece)
+
+      go : (lister .kept ≡ 0) ⊎ (length piece ≡ 0) → between .kept + length (second lister piece whole) ≤ 26
+      go (inl none) =
+          let kept : between .kept ≡ 0 = ap (λ (l : Lister). l .kept) same ∙ none-after (none-begun m none) (first lister piece whole) whole-even in
+          omega (arith, kept, few)
+      go (inr empty) = let kept = lacks (here lister (first lister piece whole) m same) in omega (arith, kept, length-take (length piece - whole) (drop whole piece), length-drop whole piece)
+
+-- how many bytes the telegram in hand lacks
+module _ (lister : Lister) (piece : List ℕ) (m : Made lister) (cut : ℕ) (lacking : cut ≡ cond (eqb (lister .kept) 0) 0 (min (26 - lister .kept) (length piece))) where
+  pub cut-inside : cut ≤ length piece
+  cut-inside =
+      on (eqb (lister .kept) 0)
+      (λ e. let none : cut ≡ 0 = lacking ∙ rw e refl in omega arith)
+      (λ e. let some : cut ≡ min (26 - lister .kept) (length piece) = lacking ∙ rw e refl in omega arith)
+
+  cut-length : length (first lister piece cut) ≡ cut
+  cut-length = omega (arith, length-take (cut - 0) piece, cut-inside)
+
+  pub cut-fits : lister .kept + length (first lister piece cut) ≤ 26
+  cut-fits =
+      let few = lacks m in
+      on (eqb (lister .kept) 0)
+      (λ e. let none : cut ≡ 0 = lacking ∙ rw e refl in omega (arith, cut-length, few))
+      (λ e. let some : cut ≡ min (26 - lister .kept) (length piece) = lacking ∙ rw e refl in omega (arith, cut-length, few))
+
+  -- after them none is begun, or nothing is left
+  pub cut-begun : {between : Lister} → between ≡ takeOf lister (first lister piece cut) → (between .kept ≡ 0) ⊎ (length (second lister piece cut) ≡ 0)
+  cut-begun {between} same =
+      on (eqb (lister .kept) 0)
+      (λ e.
+      let zero-kept : lister .kept ≡ 0 = eqb-true (lister .kept) 0 e in
+      let none : cut ≡ 0 = lacking ∙ rw e refl in
+      inl (ap (λ (l : Lister). l .kept) same ∙ none-after (none-begun m zero-kept) (first lister piece cut) (omega (arith, cut-length, none))))
+      (λ e.
+      let some : cut ≡ min (26 - lister .kept) (length piece) = lacking ∙ rw e refl in
+      let (bytes, kept) = made-kept m in
+      on (ltb (26 - lister .kept) (length piece))
+      (λ more.
+      let all : length (bytes ++ first lister piece cut) ≡ 26 =
+      omega (arith, length-append bytes (first lister piece cut), cut-length, kept .counted, kept .short, some, ltb-true (26 - lister .kept) (length piece) more) in
+      inl (ap (λ (l : Lister). l .kept) same ∙ none-left kept (first lister piece cut) all))
+      (λ less.
+      inr (omega (arith, length-take (length piece - cut) (drop cut piece), length-drop cut piece, some, ltb-false (26 - lister .kept) (length piece) less))))

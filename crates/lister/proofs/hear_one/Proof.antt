@@ -1,4 +1,5 @@
 -- `hear_one`: the listener's memory hears.
+use mathlib.Core.List.{[]}
 use mathlib.Core.Path.{_≡_, ap, sym, _∙_}
 use lib.ListN.{length-map}
 use Rattle.kit.proofs.Put.{poured-as}
