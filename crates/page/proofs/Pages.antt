@@ -1,13 +1,13 @@
 -- Laws of `Paged`: nothing, one run after another, a store of more bytes than are put, and a page that is copied into a buffer.
-use Prim.Native.Nat.{ℕ, suc, _+_, _-_, _≤_, min}
+use Prim.Native.Nat.{ℕ, _+_, _-_, _≤_, min}
 use mathlib.Core.Path.{_≡_, refl, sym, ap, _∙_, subst}
 use mathlib.Core.Bool.{true, false, cond}
 use lib.Dec.{leb}
 use borrow.Author.Tests.{leb-true, leb-false}
 use Rattle.kit.proofs.Cases.{on}
 use Rattle.kit.proofs.Contracts.{agree}
-use mathlib.Core.List.{List, [], _∷_, _++_, append-nil, append-assoc}
-use lib.ListN.{length, take, drop, set, length-append}
+use mathlib.Core.List.{List, [], _++_, append-nil, append-assoc}
+use lib.ListN.{length, take, drop, length-append}
 use lib.Seq.{sets, take-all, sets-eq, length-take-le, take-append-le, take-append-add}
 use native.Mathlib.Omega.{arith}
 use Rattle.kit.specs.Each.{each}
@@ -106,21 +106,6 @@ laid-as {w} {x} {y} {l} {m} {i} {j} {a} {b} {s} {t} put stored le laid =
 -- a page filled from its start, copied into a buffer as far as it is filled, pours what was put on the page
 pub paged-poured : {x : ℕ} {p l m : List ℕ} {page : List ℕ} {next at j : ℕ} {bytes : List ℕ} → Paged x p 0 bytes page next → Poured l at (take (next - 0) page) m j → Poured l at bytes m j
 paged-poured {page = page} {next} put copied = let whole : next ≡ next - 0 = omega arith in poured-as (sym (put .held) ∙ ap (λ n. take n page) whole) copied
-
--- ---- bytes stored one by one, as the code has their places
-
-abbrev pub stores : List ℕ → ℕ → ℕ → List ℕ → List ℕ
-stores l at k [] = l
-stores l at k (byte ∷ more) = stores (set l (at + k) byte) at (suc k) more
-
-stores-sets : (bytes l : List ℕ) (at k : ℕ) → stores l at k bytes ≡ sets l (at + k) bytes
-stores-sets [] l at k = refl
-stores-sets (byte ∷ more) l at k =
-    let next : at + suc k ≡ suc (at + k) = omega arith in
-    stores-sets more (set l (at + k) byte) at (suc k) ∙ ap (λ i. sets (set l (at + k) byte) i more) next
-
-pub stored-sets : (l : List ℕ) (at byte : ℕ) (more : List ℕ) → stores (set l at byte) at 1 more ≡ sets l at (byte ∷ more)
-stored-sets l at byte more = let next : at + 1 ≡ suc at = omega arith in stores-sets more (set l at byte) at 1 ∙ ap (λ i. sets (set l at byte) i more) next
 
 -- ---- one answer
 
