@@ -60,8 +60,9 @@ impl Desk {
         let step = (self.step + 1) % Desk::STEPS;
         let were = self.ended;
         let n = (list.len() / order_list::LENGTH) as u8;
-        let ended = leaving::ended_numbers(list, n, step, before, were);
-        let kept = leaving::kept_places(list, n, before);
+        let left = leaving::leave(list, n, step, before, were);
+        let ended = left.ended;
+        let kept = left.places;
         let seats = arriving::seat_all(kept, self.last, ended, Desk::REST, step, list, n);
         let places = seats.places;
         Answer {

@@ -1,31 +1,39 @@
 // What the program run_desk writes: the table of a desk as its five telegrams, a line for each list that is refused, and one where
 // the input ends inside a list.
+use condition::Slot;
 use desk::Desk;
+use telegram::Telegram;
 ghost use Prim.Native.Nat.{_≤_};
 ghost use Rattle.kit.specs.Put.{Poured};
 ghost use Rattle.telegram.specs.Telegrams.{bytesOf};
-ghost use Rattle.desk.specs.Desks.{telegramOf};
 ghost use Rattle.desk_output.specs.Outputs.{tableBytes, refusedLine, shortLine};
 
-// One packet of the table.
-fn put_packet(desk: Desk, packet: u8, out: &mut [u8], at: usize) -> usize
+// One packet, by the step number and the four slots that it carries.
+fn put_packet(step: u16, packet: u8, slots: [Slot; 4], out: &mut [u8], at: usize) -> usize
     requires { ⌜ (3 ≤ packet) × (packet ≤ 7) ⌝ }
-    ensures { λ r. ⌜ Poured (now (out .entry)) at (bytesOf (telegramOf desk packet)) (now (out .exit)) r ⌝ }
+    ensures { λ r. ⌜ Poured (now (out .entry)) at (bytesOf (record { packet = packet; step = step; slots = slots })) (now (out .exit)) r ⌝ }
 {
+    let telegram = Telegram {
+        packet,
+        step,
+        slots,
+    };
     let mut bytes = [0u8; 26];
-    desk_writer::write(desk, packet, &mut bytes);
+    telegram_writer::write(telegram, &mut bytes);
     text::put_words(out, at, &bytes)
 }
 
-// The table as five telegrams, packets 3 to 7: 130 bytes.
+// The table as five telegrams, packets 3 to 7: 130 bytes. It is made once, and each packet is handed its four slots alone.
 pub fn put_table(desk: Desk, out: &mut [u8], at: usize) -> usize
     ensures { λ r. ⌜ Poured (now (out .entry)) at (tableBytes desk) (now (out .exit)) r ⌝ }
 {
-    let fourth = put_packet(desk, 3, out, at);
-    let fifth = put_packet(desk, 4, out, fourth);
-    let sixth = put_packet(desk, 5, out, fifth);
-    let seventh = put_packet(desk, 6, out, sixth);
-    put_packet(desk, 7, out, seventh)
+    let table = desk_writer::table_of(desk);
+    let step = desk.step;
+    let fourth = put_packet(step, 3, telegram::four_of(table, 3), out, at);
+    let fifth = put_packet(step, 4, telegram::four_of(table, 4), out, fourth);
+    let sixth = put_packet(step, 5, telegram::four_of(table, 5), out, fifth);
+    let seventh = put_packet(step, 6, telegram::four_of(table, 6), out, sixth);
+    put_packet(step, 7, telegram::four_of(table, 7), out, seventh)
 }
 
 // `refused N at list I` and a line feed.

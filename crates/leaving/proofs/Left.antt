@@ -36,6 +36,11 @@ module _ (list : List ℕ) (n : ℕ) (place : Place) where
   unfolding keptPlace
   kept-ends e = rw e refl
 
+  -- D-07: one that stays has not ended
+  pub entry-stays : (step : ℕ) → stays list n place ≡ true → endedEntry list n step place ≡ noneEnded
+  unfolding endedEntry
+  entry-stays step e = on (eqb (place .order) 0) (λ f. rw f refl) (λ f. rw (f, e) refl)
+
   -- D-06: a live order absent has ended
   pub entry-ends : (step : ℕ) → 1 ≤ place .order → stays list n place ≡ false → endedEntry list n step place ≡ record { number = place .slot .number; step = step }
   unfolding endedEntry

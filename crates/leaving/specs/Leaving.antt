@@ -13,6 +13,7 @@ use Rattle.places.specs.Places.{freePlace}
 use Rattle.places.specs.declared.Place.{Place}
 use Rattle.resting.specs.Rests.{noneEnded}
 use Rattle.resting.specs.declared.Ended.{Ended}
+use Rattle.leaving.specs.declared.Remains.{Remains}
 
 -- D-06, D-07: the order of this place is in the list
 abbrev pub stays : List ℕ → ℕ → Place → Bool
@@ -43,3 +44,7 @@ endedEntry list n step place = cond (ends list n place) (record { number = place
 -- A-05, A-40: the numbers that ended in this step stand in front, by slot, and the oldest twenty are dropped
 unfoldable pub endedNumbers : List ℕ → ℕ → ℕ → List Place → List Ended → List Ended
 endedNumbers list n step places ended = take (length ended) (map (endedEntry list n step) places ++ ended)
+
+-- D-06, D-07, D-12: what the step leaves: the places of those that stay, and the numbers that have ended
+unfoldable pub remainsOf : List ℕ → ℕ → ℕ → List Place → List Ended → Remains
+remainsOf list n step places ended = record { places = map (keptPlace list n) places; ended = endedNumbers list n step places ended }

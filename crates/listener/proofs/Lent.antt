@@ -1,31 +1,31 @@
 -- What the lent memory means after each way through a hearing: the listener that the definition gives. And that the memory of a listener
 -- means that listener.
-use Prim.Native.Nat.{ℕ, _+_, _-_, _*_, _/_, _%_, _<_, _≤_}
+use Prim.Native.Nat.{ℕ, _+_, _-_, _*_, _≤_}
 use mathlib.Core.Path.{_≡_, refl, sym, ap, ap₂, subst, _∙_}
 use mathlib.Core.Logic.{inl, inr}
 use mathlib.Core.Bool.{Bool, true, false, cond}
-use mathlib.Core.List.{List, [], _∷_, _++_, map}
+use mathlib.Core.List.{List, _∷_, _++_, map}
 use lib.Dec.{eqb}
 use lib.ListN.{length, getD, drop, replicate, length-map, length-drop, length-append, length-replicate}
-use lib.Seq.{sets, length-sets, ext-getD, getD-drop}
+use lib.Seq.{sets, length-sets, getD-drop}
 use native.Mathlib.Omega.{arith}
 use borrow.Author.Tests.{ne-eqb}
 use Rattle.kit.specs.Bytes.{word, wordBytes}
 use Rattle.kit.specs.Put.{Put}
 use Rattle.kit.proofs.Cases.{on}
 use Rattle.kit.proofs.Ladder.{refused-exactly, decides-such}
-use Rattle.kit.proofs.Maps.{map-at, replicate-at}
+use Rattle.kit.proofs.Maps.{replicate-at}
 use Rattle.kit.proofs.Put.{put-then, put-whole}
 use Rattle.kit.proofs.Stores.{sets-in}
 use Rattle.condition.specs.Slots.{slots}
 use Rattle.condition.specs.declared.slots.Slot.{Slot}
 use Rattle.wire.specs.declared.verdicts.Verdict.the-variants.{Accepted, Refused as refusedBy}
 use Rattle.telegram.specs.Tables.{packets, firstPacket}
-use Rattle.telegram.specs.Telegrams.{packetIn, stepIn, telegramOf, readRows, readRefusal, readOf, blank}
+use Rattle.telegram.specs.Telegrams.{packetIn, stepIn, telegramOf, readRows, readRefusal, blank}
 use Rattle.telegram.specs.declared.Telegram.{Telegram}
-use Rattle.telegram.proofs.Rows.{read-refused, read-accepted, read-numbered}
+use Rattle.telegram.proofs.Rows.{read-refused, read-accepted, read-numbered, read-to-14}
 use Rattle.memory.specs.Memory.{room, slotRoom, marksFrom, lastFrom, stepFrom, setFrom, flagByte, flagsAt, tableBytes, pictureIn, marksIn, setIn, withMarks, withPicture}
-use Rattle.memory.proofs.Slots.{flag-in, length-flags, Same, table-same, flags-same, same-out, word-back, length-table}
+use Rattle.memory.proofs.Slots.{Same, table-same, flags-same, same-out, length-table}
 use Rattle.memory.proofs.Back.{table-length, table-back, flags-back}
 use Rattle.picture.specs.Pictures.{countOf, clashes}
 use Rattle.marks.specs.Marks.{isCarried, marksOf}
@@ -45,7 +45,6 @@ use Rattle.listener.specs.declared.Answer.the-variants.{Refused, Repeat,
 use Rattle.listener.specs.declared.Heard.{Heard}
 use Rattle.listener.specs.declared.Listener.{Listener}
 use Rattle.listener.proofs.Hearing.{hear-refused, hear-as, heard-last, heard-copy, heard-part, heard-clash, heard-taken}
-use Rattle.telegram.proofs.Rows.{read-to-14}
 
 -- ---- what lies below the set decides picture, marks and last step
 
@@ -201,10 +200,16 @@ module _ (listener : Listener) (sized : Sized listener) where
   unfolding withMarks bytesOf
   built =
       let bytes : length (bytesOf listener) ≡ room =
-      omega (arith, picture-size, marks-size, last-size, hand-size,
-      length-append (tableBytes (listener .picture)) (map flagByte (listener .marks) ++ (lastBytes (listener .last) ++ handBytes (listener .hand))),
-      length-append (map flagByte (listener .marks)) (lastBytes (listener .last) ++ handBytes (listener .hand)),
-      length-append (lastBytes (listener .last)) (handBytes (listener .hand))) in
+      omega (
+        arith,
+        picture-size,
+        marks-size,
+        last-size,
+        hand-size,
+        length-append (tableBytes (listener .picture)) (map flagByte (listener .marks) ++ (lastBytes (listener .last) ++ handBytes (listener .hand))),
+        length-append (map flagByte (listener .marks)) (lastBytes (listener .last) ++ handBytes (listener .hand)),
+        length-append (lastBytes (listener .last)) (handBytes (listener .hand)),
+      ) in
       let one : Put blank-memory 0 (tableBytes (listener .picture)) with-picture marksFrom = record { stored = refl; past = omega (arith, picture-size) } in
       let two : Put with-picture marksFrom (map flagByte (listener .marks)) with-marks lastFrom = record { stored = refl; past = omega (arith, marks-size) } in
       let three : Put with-marks lastFrom (lastBytes (listener .last)) with-last stepFrom = record { stored = refl; past = omega (arith, last-size) } in

@@ -1,4 +1,5 @@
 pub mod Cutting
 pub mod Folds
 pub mod Kept
+pub mod Phases
 pub mod Recording

@@ -23,10 +23,19 @@ order-list-order-at κs handed answer other lasts others p q = (agree p q, refl)
 pub order-list-listed-at : OneAnswer order-list.listed_at.ended order-list.listed_at.Reads.Learnt
 order-list-listed-at κs handed answer other lasts others p q = (agree p q, refl)
 
+pub order-list-numbers-of : OneAnswer order-list.numbers_of.ended order-list.numbers_of.Reads.Learnt
+order-list-numbers-of κs handed answer other lasts others p q = (agree p q, refl)
+
+pub order-list-found-at : OneAnswer order-list.found_at.ended order-list.found_at.Reads.Learnt
+order-list-found-at κs handed answer other lasts others p q = (agree p q, refl)
+
 -- ---- places
 
 pub places-free : OneAnswer places.Place.free.ended places.Place.free.Reads.Learnt
 places-free κs handed answer other lasts others p q = (agree p q, refl)
+
+pub places-orders-of : OneAnswer places.orders_of.ended places.orders_of.Reads.Learnt
+places-orders-of κs handed answer other lasts others p q = (agree p q, refl)
 
 pub places-place-of : OneAnswer places.place_of.ended places.place_of.Reads.Learnt
 places-place-of κs handed answer other lasts others p q = (agree p q, refl)
@@ -50,6 +59,9 @@ pub numbers-next-number : OneAnswer numbers.next_number.ended numbers.next_numbe
 numbers-next-number κs handed answer other lasts others p q = (agree p q, refl)
 
 -- ---- leaving
+
+pub leaving-leave : OneAnswer leaving.leave.ended leaving.leave.Reads.Learnt
+leaving-leave κs handed answer other lasts others p q = (agree p q, refl)
 
 pub leaving-kept-places : OneAnswer leaving.kept_places.ended leaving.kept_places.Reads.Learnt
 leaving-kept-places κs handed answer other lasts others p q = (agree p q, refl)

@@ -1,10 +1,11 @@
 -- The list of orders: document 01, "The list and the step", its first sentence.
 use Prim.Native.Nat.{ℕ, _+_, _*_, _/_}
 use mathlib.Core.Bool.{Bool}
-use mathlib.Core.List.{List}
+use mathlib.Core.List.{List, [], _∷_}
 use lib.Dec.{eqb, ltb}
 use lib.ListN.{length, getD}
 use Rattle.kit.specs.Bytes.{wordAt, longAt}
+use Rattle.kit.specs.Each.{each}
 use Rattle.kit.specs.Loops.{find}
 use Rattle.order_list.specs.declared.Order.{Order}
 
@@ -38,3 +39,11 @@ stands list number = isListed list (orderCount list) number
 -- D-07: what the list has under this order number
 abbrev pub orderNamed : List ℕ → ℕ → Order
 orderNamed list number = orderAt list (listedAt list (orderCount list) number)
+
+-- D-01: the order numbers of the first twenty orders, as many as a list may have; 0 past its end
+unfoldable pub numbersOf : List ℕ → List ℕ
+numbersOf list = each (λ j. orderAt list j .number ∷ []) 0 20
+
+-- which of twenty order numbers this is, the lowest, or 20 where it is none of them
+unfoldable pub foundAt : List ℕ → ℕ → ℕ
+foundAt numbers number = find (λ i. eqb (getD numbers i 0) number) 20

@@ -1,8 +1,9 @@
 -- The refusals of a list of orders: document 01, "Refusal numbers", rows 1 to 8.
-use Rattle.condition.specs.Slots.{codedOf}
+use Rattle.condition.specs.Slots.{codedOf, slots}
 use Prim.Native.Nat.{ℕ, _%_}
+use mathlib.Core.Path.{_≡_}
 use mathlib.Core.Bool.{Bool, not, _&&_}
-use mathlib.Core.List.{List, [], _∷_}
+use mathlib.Core.List.{List, [], _∷_, map}
 use lib.Dec.{eqb, ltb}
 use lib.ListN.{length}
 use Rattle.kit.specs.Each.{each}
@@ -10,8 +11,16 @@ use Rattle.kit.specs.Ladder.{ladder}
 use Rattle.kinds.specs.Words.{isType, secondAllowed}
 use Rattle.order_list.specs.Lists.{orderAt, orderCount, isListed}
 use Rattle.order_list.specs.declared.Order.{Order}
-use Rattle.places.specs.Places.{placeAt, placeOf, isLive}
+use Rattle.places.specs.Places.{placeAt, ordersOf, placeOf, isLive}
 use Rattle.places.specs.declared.Place.{Place}
+
+-- R-08: the types of what stands in the twenty places, in their order; 0 where nothing does
+abbrev pub typesOf : List Place → List ℕ
+typesOf places = map (λ (place : Place). codedOf (place .slot) .kind) places
+
+-- what is said of any twenty places whose orders and types these are
+abbrev pub OfPlaces : List ℕ → List ℕ → (List Place → Type 0) → Type 0
+OfPlaces live types says = (places : List Place) → length places ≡ slots → live ≡ ordersOf places → types ≡ typesOf places → says places
 
 -- R-08: live order with another type
 unfoldable pub isRetyped : List Place → Order → Bool

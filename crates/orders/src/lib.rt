@@ -5,30 +5,45 @@ use order_list::LENGTH;
 use order_list::Order;
 use places::Place;
 ghost use mathlib.Core.Path.{_≡_};
-ghost use Prim.Native.Nat.{_<_};
+ghost use Prim.Native.Nat.{_<_, _≤_};
 ghost use Rattle.kit.specs.Each.{each};
 ghost use Rattle.kit.specs.Ladder.{ladder};
-ghost use Rattle.orders.specs.Orders.{isRetyped, orderRows, listRefusal};
+ghost use Rattle.order_list.specs.Lists.{numbersOf};
+ghost use Rattle.orders.specs.Orders.{typesOf, OfPlaces, isRetyped, orderRows, listRefusal};
 
 // The most bytes that a list may have.
 const LONGEST: usize = 200;
 
-// Whether an order is live with another type.
-fn is_retyped(places: [Place; 20], order: Order) -> bool
-    ensures { λ r. ⌜ r ≡ isRetyped places order ⌝ }
+// The types of what stands in the twenty places, in their order; 0 where nothing does.
+fn types_of(places: [Place; 20]) -> [u8; 20]
+    ensures { λ r. ⌜ r ≡ typesOf places ⌝ }
 {
-    let at = places::place_of(places, order.number);
-    if at < SLOTS {
-        let place = places[at];
+    let mut types = [0u8; 20];
+    let mut i: usize = 0;
+    while i < SLOTS {
+        let place = places[i];
         let coded = condition::coded_of(place.slot);
-        return coded.kind != order.kind;
+        types[i] = coded.kind;
+        i += 1;
+    }
+    types
+}
+
+// Whether an order is live with another type, by the orders of the places and their types.
+fn is_retyped(live: &[u32; 20], types: &[u8; 20], order: Order) -> bool
+    ensures { λ r. ⌜ OfPlaces (now (live .entry)) (now (types .entry)) (λ places. r ≡ isRetyped places order) ⌝ }
+{
+    let at = order_list::found_at(live, order.number);
+    if at < SLOTS {
+        return types[at] != order.kind;
     }
     false
 }
 
-// The refusal of order j, or 0.
-fn order_refusal(places: [Place; 20], list: &[u8], j: u8) -> u8
-    ensures { λ r. ⌜ r ≡ ladder 0 (orderRows places (now (list .entry)) j) ⌝ }
+// The refusal of order j, or 0, by the orders of the places and their types and by the order numbers of the list.
+fn order_refusal(live: &[u32; 20], types: &[u8; 20], numbers: &[u32; 20], list: &[u8], j: u8) -> u8
+    requires { ⌜ (j < 20) × (now numbers ≡ numbersOf (now list)) ⌝ }
+    ensures { λ r. ⌜ OfPlaces (now (live .entry)) (now (types .entry)) (λ places. r ≡ ladder 0 (orderRows places (now (list .entry)) j)) ⌝ }
 {
     let order = order_list::order_at(list, j);
     if order.number == 0 {
@@ -43,10 +58,10 @@ fn order_refusal(places: [Place; 20], list: &[u8], j: u8) -> u8
     if !kinds::second_allowed(order.kind, order.first, order.second) {
         return 6;
     }
-    if order_list::listed_at(list, j, order.number) < j {
+    if order_list::found_at(numbers, order.number) < j as usize {
         return 7;
     }
-    if is_retyped(places, order) {
+    if is_retyped(live, types, order) {
         return 8;
     }
     0
@@ -54,11 +69,15 @@ fn order_refusal(places: [Place; 20], list: &[u8], j: u8) -> u8
 
 // The refusal of the first bad order of n, or 0.
 fn orders_refusal(places: [Place; 20], list: &[u8], n: u8) -> u8
+    requires { ⌜ n ≤ 20 ⌝ }
     ensures { λ r. ⌜ r ≡ ladder 0 (each (orderRows places (now (list .entry))) 0 n) ⌝ }
 {
+    let live = places::orders_of(places);
+    let types = types_of(places);
+    let numbers = order_list::numbers_of(list);
     let mut j: u8 = 0;
     while j < n {
-        let refusal = order_refusal(places, list, j);
+        let refusal = order_refusal(&live, &types, &numbers, list, j);
         if refusal != 0 {
             return refusal;
         }

@@ -1,14 +1,19 @@
--- What the search of an order's place answers.
+-- What the search of an order's place answers; and that it is the search among the orders of the places.
 use Prim.Native.Nat.{ℕ, _<_}
 use mathlib.Core.Path.{_≡_}
 use mathlib.Core.Bool.{true, false}
 use mathlib.Core.List.{List}
 use lib.Dec.{eqb}
+use lib.ListN.{length}
+use native.Mathlib.Omega.{arith}
 use borrow.Author.Tests.{eqb-true, eqb-false, eq-eqb}
 use Rattle.kit.proofs.Cases.{given}
 use Rattle.kit.proofs.Loops.{found-there, found-none, found-when}
+use Rattle.kit.proofs.Maps.{map-at}
+use Rattle.order_list.specs.Lists.{foundAt}
+use Rattle.order_list.proofs.Found.{found-as}
 use Rattle.condition.specs.Slots.{slots}
-use Rattle.places.specs.Places.{placeAt, placeOf, isLive}
+use Rattle.places.specs.Places.{freePlace, placeAt, ordersOf, placeOf, isLive}
 use Rattle.places.specs.declared.Place.{Place}
 
 module _ (places : List Place) (o : ℕ) where
@@ -23,3 +28,8 @@ module _ (places : List Place) (o : ℕ) where
   pub live-when : (i : ℕ) → i < slots → placeAt places i .order ≡ o → isLive places o ≡ true
   unfolding placeOf
   live-when i p e = found-when (λ k. eqb (placeAt places k .order) o) slots i p (eq-eqb _ o e)
+
+  pub found-live : length places ≡ slots → foundAt (ordersOf places) o ≡ placeOf places o
+  unfolding placeOf
+  found-live twenty =
+      found-as (ordersOf places) (λ i. placeAt places i .order) (λ i p. map-at (λ (place : Place). place .order) places i freePlace 0 (omega (arith, twenty))) o

@@ -1,7 +1,7 @@
 -- The places of a desk: document 01, "The list and the step", its points on slots.
 use Prim.Native.Nat.{ℕ}
 use mathlib.Core.Bool.{Bool}
-use mathlib.Core.List.{List}
+use mathlib.Core.List.{List, map}
 use lib.Dec.{eqb, ltb}
 use lib.ListN.{getD}
 use Rattle.kit.specs.Loops.{find}
@@ -15,6 +15,10 @@ freePlace = record { order = 0; slot = emptySlot }
 -- W-01: place i of the twenty
 abbrev pub placeAt : List Place → ℕ → Place
 placeAt places i = getD places i freePlace
+
+-- A-01: the orders that have the twenty places, in their order; 0 of a free one
+abbrev pub ordersOf : List Place → List ℕ
+ordersOf places = map (λ (place : Place). place .order) places
 
 -- A-01: the lowest place that an order has, or 20 where it has none
 unfoldable pub placeOf : List Place → ℕ → ℕ

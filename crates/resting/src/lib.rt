@@ -1,5 +1,6 @@
 // Which numbers rest: those that ended lately, each with the step in which it did. How many steps a number rests is a figure that
 // the desk hands in.
+ghost use mathlib.Core.Bool.{true, cond};
 ghost use mathlib.Core.Path.{_≡_};
 ghost use Prim.Native.Nat.{_<_};
 ghost use Rattle.resting.specs.Rests.{noneEnded, restsBy, isResting};
@@ -31,16 +32,26 @@ fn rests_by(entry: Ended, rest: u16, step: u16, number: u8) -> bool
     wire::gap(step, entry.step) < rest
 }
 
-// Whether a number rests in this step.
+// Whether the one or the other.
+fn either(one: bool, other: bool) -> bool
+    ensures { λ r. ⌜ r ≡ cond one true other ⌝ }
+{
+    if one {
+        return true;
+    }
+    other
+}
+
+// Whether a number rests in this step. All entries are looked at, from the last to the first: a machine judges several at once, and
+// there is no branch to guess wrong.
 pub fn is_resting(ended: [Ended; 160], rest: u16, step: u16, number: u8) -> bool
     ensures { λ r. ⌜ r ≡ isResting rest step ended number ⌝ }
 {
-    let mut i: usize = 0;
-    while i < KEPT {
-        if rests_by(ended[i], rest, step, number) {
-            return true;
-        }
-        i += 1;
+    let mut rests = false;
+    let mut i: usize = KEPT;
+    while 0 < i {
+        i -= 1;
+        rests = either(rests_by(ended[i], rest, step, number), rests);
     }
-    false
+    rests
 }

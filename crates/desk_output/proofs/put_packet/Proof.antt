@@ -1,7 +1,7 @@
--- `put_packet`: the desk fills the 26 bytes, and they are put one after another.
+-- `put_packet`: the telegram fills the 26 bytes, and they are put one after another.
 use Rattle.kit.proofs.Put.{poured-as}
 use mathlib.Core.Path.{sym, _∙_, refl}
-use Rattle.desk.proofs.Tables.{packet-written}
+use Rattle.telegram.proofs.Refusals.{packet-fills}
 use borrow.Author.Needs.{needs}
 use Rattle.desk_output.proofs.put_packet.Statement.{statement}
 use Rattle.desk_output.proofs.put_packet.Tie as tie
@@ -22,8 +22,12 @@ same-length : tie.Need-same-length
 same-length c = search needs
 
 returns : tie.Need-returns
-returns c = let w = c .before .before .before .before .before .before .write .ensures .1 in let a = c .before .before .before .before .before .before .before .before .before in
-    poured-as (sym (w ∙ packet-written (a .args .desk) (a .args .packet) _ (a .pre .0) (a .pre .1) refl)) (c .before .before .put-words .ensures)
+returns c =
+    let written = c .before .before .before .before .before .before .write .ensures .1 in
+    let start = c .before .before .before .before .before .before .before .before .before in
+    let a = start .args in
+    poured-as (sym (written ∙ packet-fills (record { packet = a .packet; step = a .step; slots = a .slots }) _ (start .pre .0) (start .pre .1) refl))
+    (c .before .before .put-words .ensures)
 
 pub put-packet-spec : {M : Type 1} → statement M
 put-packet-spec =

@@ -1,6 +1,6 @@
 -- `shift`: one after another.
 use mathlib.Core.Path.{ap, _∙_}
-use Rattle.memory.specs.Memory.{withMarks, withPicture}
+use Rattle.memory.specs.Memory.{withPicture}
 use Rattle.hand.specs.Lent.{begunIn}
 use Rattle.last_step.specs.Lent.{withLast}
 use Rattle.listener.specs.Lent.{shiftedIn}

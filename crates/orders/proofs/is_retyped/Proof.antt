@@ -1,37 +1,56 @@
 -- `is_retyped`: the type of the order's place, where it has one.
-use mathlib.Core.Path.{sym}
+use Prim.Native.Nat.{ℕ, _<_, _≤_}
+use mathlib.Core.Path.{_≡_, refl, sym, ap, _∙_}
+use mathlib.Core.Bool.{false, not}
+use mathlib.Core.List.{List}
+use lib.Dec.{eqb}
+use lib.ListN.{length, getD}
+use native.Mathlib.Omega.{arith}
 use borrow.Author.Needs.{needs}
 use borrow.Author.Tests.{lt-ltb, le-ltb}
-use Rattle.orders.specs.Orders.{isRetyped}
+use Rattle.kit.proofs.Maps.{map-at}
+use Rattle.condition.specs.Slots.{codedOf, slots}
+use Rattle.order_list.specs.Lists.{foundAt}
+use Rattle.order_list.specs.declared.Order.{Order}
+use Rattle.places.specs.Places.{freePlace, ordersOf, placeOf}
+use Rattle.places.specs.declared.Place.{Place}
+use Rattle.places.proofs.Live.{found-live}
+use Rattle.orders.specs.Orders.{typesOf, isRetyped}
 use Rattle.orders.proofs.is_retyped.Statement.{statement}
 use Rattle.orders.proofs.is_retyped.Tie as tie
 
-place-of-requires : tie.Need-place-of-requires
-place-of-requires c κs = search needs
+-- by the orders and the types of the places
+module _ (live types : List ℕ) (order : Order) (at : ℕ) (found : at ≡ foundAt live (order .number)) (places : List Place)
+    (twenty : length places ≡ slots) (e : live ≡ ordersOf places) (f : types ≡ typesOf places) where
+  placed : placeOf places (order .number) ≡ at
+  placed = sym (found ∙ (ap (λ (l : List ℕ). foundAt l (order .number)) e ∙ found-live places (order .number) twenty))
 
-mul-place : tie.Need-mul-place
-mul-place c = search needs
+  typed : at < slots → getD types at 0 ≡ codedOf (getD places at freePlace .slot) .kind
+  typed p = ap (λ (l : List ℕ). getD l at 0) f ∙ map-at (λ (place : Place). codedOf (place .slot) .kind) places at freePlace 0 (omega (arith, twenty))
 
-array-copy-out-place : tie.Need-array-copy-out-place
-array-copy-out-place c = search needs
+  judged : at < slots → not (eqb (getD types at 0) (order .kind)) ≡ isRetyped places order
+  unfolding isRetyped
+  judged p = rw (placed, lt-ltb at slots p, typed p) refl
 
-coded-of-requires : tie.Need-coded-of-requires
-coded-of-requires c κs = search needs
+  unplaced : slots ≤ at → false ≡ isRetyped places order
+  unfolding isRetyped
+  unplaced p = rw (placed, le-ltb at slots p) refl
+
+found-at-requires : tie.Need-found-at-requires
+found-at-requires c κs = search needs
+
+element-copy-out-result : tie.Need-element-copy-out-result
+element-copy-out-result c = search needs
 
 returns : tie.Need-returns
-unfolding isRetyped
-returns c =
-    simp (
-      sym (c .before .before .before .before .before .place-of .ensures),
-      lt-ltb _ _ (c .before .before .before .before .if1 .taken),
-      sym (c .before .before .coded-of .ensures),
-    )
+returns c places twenty e f =
+    let a = c .before .before .before .before .args in
+    judged (a .live .now) (a .types .now) (a .order) _ (c .before .before .before .found-at .ensures) places twenty e f (c .before .before .if1 .taken)
 
 returns-2 : tie.Need-returns-2
-unfolding isRetyped
-returns-2 c = simp (sym (c .before .place-of .ensures), le-ltb _ _ (c .if1 .left))
+returns-2 c places twenty e f =
+    let a = c .before .before .args in
+    unplaced (a .live .now) (a .types .now) (a .order) _ (c .before .found-at .ensures) places twenty e f (c .if1 .left)
 
 pub is-retyped-spec : {M : Type 1} → statement M
-is-retyped-spec =
-    tie.close
-    (tie.spec place-of-requires mul-place array-copy-out-place coded-of-requires returns returns-2)
+is-retyped-spec = tie.close (tie.spec found-at-requires element-copy-out-result returns returns-2)

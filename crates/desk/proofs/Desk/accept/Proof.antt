@@ -1,6 +1,6 @@
--- `Desk::accept`: by what `refusal_of` answered; an accepted list makes who ends, who stays and who is new, one after another.
+-- `Desk::accept`: by what `refusal_of` answered; an accepted list makes who ends and who stays, and then who is new.
 use Prim.Native.Nat.{ℕ, _<_, _≤_}
-use mathlib.Core.List.{List, map}
+use mathlib.Core.List.{List}
 use mathlib.Core.Path.{_≡_, refl, sym, _∙_}
 use lib.ListN.{length}
 use borrow.Author.Needs.{needs}
@@ -9,15 +9,15 @@ use Rattle.wire.specs.declared.verdicts.Verdict.the-variants.{Accepted, Refused
 use Rattle.order_list.specs.Lists.{orderCount}
 use Rattle.orders.specs.Orders.{listRefusal}
 use Rattle.orders.proofs.Lists.{fair-length}
-use Rattle.places.specs.declared.Place.{Place}
 use Rattle.resting.specs.Rests.{isResting}
-use Rattle.resting.specs.declared.Ended.{Ended}
+use Rattle.leaving.specs.Leaving.{remainsOf}
+use Rattle.leaving.specs.declared.Remains.{Remains}
 use Rattle.arriving.specs.Arriving.{seatedAll}
 use Rattle.arriving.specs.declared.Seats.{Seats}
 use Rattle.desk.specs.declared.Answer.{Answer}
 use Rattle.desk.specs.declared.Desk.{Desk}
 use Rattle.desk.specs.Desks.{rest, acceptOf}
-use Rattle.desk.specs.Steps.{nextStep, keptPlace, endedNumbers, stepOf}
+use Rattle.desk.specs.Steps.{nextStep, stepOf}
 use Rattle.desk.proofs.Making.{accepts, refuses, made-sound}
 use Rattle.desk.proofs.Desk.accept.Statement.{statement}
 use Rattle.desk.proofs.Desk.accept.Tie as tie
@@ -35,12 +35,12 @@ module _ (desk : Desk) (list : List ℕ) (refusal : ℕ) (e : refusal ≡ listRe
   accepting : (next : Desk) → refusal ≡ 0 → next ≡ stepOf rest desk list → accepted next ≡ acceptOf rest desk list
   accepting next z s = rw s (sym (accepts rest desk list (sym e ∙ z)))
 
-stepped : (desk : Desk) (list : List ℕ) (ended : List Ended) (kept : List Place) (seats : Seats)
-    → ended ≡ endedNumbers list (nextStep (desk .step)) (desk .places) (desk .ended) → kept ≡ map (keptPlace list) (desk .places)
-    → seats ≡ seatedAll (isResting rest (nextStep (desk .step)) ended) list (record { places = kept; last = desk .last }) (orderCount list)
-    → record { places = seats .places; ended = ended; last = seats .last; step = nextStep (desk .step) } ≡ stepOf rest desk list
-unfolding stepOf
-stepped desk list ended kept seats e k s = rw (s, e, k) refl
+stepped : (desk : Desk) (list : List ℕ) (left : Remains) (seats : Seats)
+    → left ≡ remainsOf list (orderCount list) (nextStep (desk .step)) (desk .places) (desk .ended)
+    → seats ≡ seatedAll (isResting rest (nextStep (desk .step)) (left .ended)) list (record { places = left .places; last = desk .last }) (orderCount list)
+    → record { places = seats .places; ended = left .ended; last = seats .last; step = nextStep (desk .step) } ≡ stepOf rest desk list
+unfolding stepOf remainsOf
+stepped desk list left seats e s = rw (s, e) refl
 
 refusal-of-requires : tie.Need-refusal-of-requires
 refusal-of-requires c κs = search needs
@@ -62,23 +62,19 @@ cast-n c =
     fair-length (start .args .self .places) (start .args .list .now) (sym (passed .before .refusal-of .ensures) ∙ passed .if1 .left)
     in search needs
 
-ended-numbers-requires : tie.Need-ended-numbers-requires
-ended-numbers-requires c κs = search needs
-
-kept-places-requires : tie.Need-kept-places-requires
-kept-places-requires c κs = search needs
+leave-requires : tie.Need-leave-requires
+leave-requires c κs = search needs
 
 seat-all-requires : tie.Need-seat-all-requires
 seat-all-requires c κs = search needs
 
 returns-2 : tie.Need-returns-2
 returns-2 c =
-    let stayed = c .before .before in
-    let ended = stayed .before in
-    let passed = ended .before .before .before in
+    let parted = c .before .before .before .before in
+    let passed = parted .before .before .before in
     let a = passed .before .before .before .before .args in
     accepting (a .self) (a .list .now) _ (passed .before .refusal-of .ensures) _ (passed .if1 .left)
-    (stepped (a .self) (a .list .now) _ _ _ (ended .ended-numbers .ensures) (stayed .kept-places .ensures) (c .before .seat-all .ensures))
+    (stepped (a .self) (a .list .now) _ _ (parted .leave .ensures) (c .before .seat-all .ensures))
 
 pub accept-spec : {M : Type 1} → statement M
 accept-spec =
@@ -88,7 +84,6 @@ accept-spec =
     returns
     add-step
     cast-n
-    ended-numbers-requires
-    kept-places-requires
+    leave-requires
     seat-all-requires
     returns-2)
