@@ -11,18 +11,20 @@ ghost use Rattle.kit.specs.Put.{Poured};
 ghost use Rattle.lister.specs.Pieces.{takeOf, linesOf, Made};
 ghost use Rattle.listing_room.specs.Rooms.{pieceRoom, linesRoom};
 
-// How many bytes a piece has: a hundred telegrams.
-const PIECE: usize = 2600;
+// How many bytes a piece has: four hundred telegrams.
+const PIECE: usize = 10400;
 
 fn main() {
     let mut lister = Lister::begun();
     show_header();
+    // one buffer for the lines of every piece, so that it is cleared once
+    let mut out = [0u8; 262080];
     let mut pieces: u64 = 0;
     while pieces < u64::MAX {
         pieces += 1;
-        let mut piece = [0u8; 2600];
+        let mut piece = [0u8; 10400];
         let n = io::read_full(STDIN_FILENO, &mut piece);
-        lister = show_piece(lister, &piece[..n]);
+        lister = show_piece(lister, &piece[..n], &mut out);
         if n < PIECE {
             show_end(lister);
             return;
@@ -45,12 +47,11 @@ fn put_piece(lister: Lister, piece: &[u8], out: &mut [u8]) -> Listed
 }
 
 // Writes the lines of one piece.
-fn show_piece(lister: Lister, piece: &[u8]) -> Lister
-    requires { ⌜ Made lister × (length (now piece) ≤ pieceRoom) ⌝ }
+fn show_piece(lister: Lister, piece: &[u8], out: &mut [u8]) -> Lister
+    requires { ⌜ Made lister × (length (now piece) ≤ pieceRoom) × (length (now out) ≡ linesRoom) ⌝ }
     ensures { λ r. ⌜ r ≡ takeOf lister (now (piece .entry)) ⌝ }
 {
-    let mut out = [0u8; 65535];
-    let listed = put_piece(lister, piece, &mut out);
+    let listed = put_piece(lister, piece, out);
     let n = listed.at;
     io::write_all(STDOUT_FILENO, &out[..n]);
     let next = listed.lister;

@@ -1,8 +1,8 @@
--- All that is printed for a piece has room in a buffer of 65,535 bytes, the header in one of 16 and the end in one of 64. These are the sizes
+-- All that is printed for a piece has room in a buffer of 262,080 bytes, the header in one of 16 and the end in one of 64. These are the sizes
 -- in the source of the program `list_conditions`; its contracts do not cite these laws, so that whoever alters a size there looks here.
 --
 -- Each telegram prints at most 639 bytes. A piece makes at most one telegram whole for every 26 of its bytes, and one more with the bytes
--- that were kept; a piece of 2,600 bytes makes at most a hundred whole, whose lines are at most 63,900 bytes. That is so because every slot
+-- that were kept; a piece of 10,400 bytes makes at most four hundred whole, whose lines are at most 255,600 bytes. That is so because every slot
 -- that the listener holds was read from bytes, after any pieces.
 use Prim.Native.Nat.{ℕ, zero, suc, _+_, _*_, _/_, _≤_}
 use mathlib.Core.Path.{_≡_, refl, sym, ap, _∙_, subst}

@@ -2,13 +2,13 @@
 -- that what is put there has room, so that a buffer of another size is refused in the program.
 use Prim.Native.Nat.{ℕ}
 
--- how many bytes of a recording are read at once: a hundred telegrams
+-- how many bytes of a recording are read at once: four hundred telegrams
 abbrev pub pieceRoom : ℕ
-pieceRoom = 2600
+pieceRoom = 10400
 
 -- the room for the lines of a piece
 abbrev pub linesRoom : ℕ
-linesRoom = 65535
+linesRoom = 262080
 
 -- the room for the header
 abbrev pub headerRoom : ℕ

@@ -1,16 +1,18 @@
 -- `main`: every piece goes to a state that was made. The measure is how many pieces can still be counted.
 use Prim.Native.Nat.{_-_}
-use mathlib.Core.Path.{subst⁻¹}
+use mathlib.Core.Path.{_≡_, subst⁻¹}
+use lib.ListN.{length}
 use borrow.Author.Needs.{needs}
 use Rattle.lister.specs.Pieces.{Made, made, taken}
+use Rattle.listing_room.specs.Rooms.{linesRoom}
 use Rattle.list_conditions.proofs.main.Statement.{statement}
 use Rattle.list_conditions.proofs.main.Tie as tie
 
 abbrev Inv-loop : tie.InvT-loop
-Inv-loop lister₀ pieces₀ lister pieces = Made lister
+Inv-loop lister₀ out₀ pieces₀ lister out pieces = Made lister × (length out ≡ linesRoom)
 
 abbrev μ-loop : tie.MeasureT-loop
-μ-loop lister₀ pieces₀ lister pieces = 18446744073709551615 - pieces
+μ-loop lister₀ out₀ pieces₀ lister out pieces = 18446744073709551615 - pieces
 
 begun-requires : tie.Need-begun-requires Inv-loop μ-loop
 begun-requires c κs = search needs
@@ -19,7 +21,7 @@ show-header-requires : tie.Need-show-header-requires Inv-loop μ-loop
 show-header-requires c κs = search needs
 
 loop-holds : tie.Need-loop-holds Inv-loop μ-loop
-loop-holds c = subst⁻¹ Made (c .before .begun .ensures) made
+loop-holds c = (subst⁻¹ Made (c .before .begun .ensures) made, search needs)
 
 add-pieces : tie.Need-add-pieces Inv-loop μ-loop
 add-pieces c = search needs
@@ -36,6 +38,9 @@ array-share-prefix-piece c = search needs
 slice-aggregate-show-piece : tie.Need-slice-aggregate-show-piece Inv-loop μ-loop
 slice-aggregate-show-piece c = search needs
 
+slice-aggregate-show-piece-2 : tie.Need-slice-aggregate-show-piece-2 Inv-loop μ-loop
+slice-aggregate-show-piece-2 c = search needs
+
 show-piece-requires : tie.Need-show-piece-requires Inv-loop μ-loop
 show-piece-requires c κs = search needs
 
@@ -49,7 +54,7 @@ loop-less : tie.Need-loop-less Inv-loop μ-loop
 loop-less c = search needs
 
 loop-again : tie.Need-loop-again Inv-loop μ-loop
-loop-again c = subst⁻¹ Made (c .before .show-piece .ensures) (taken (c .before .before .before .before .before .before .before .loop .inv) _)
+loop-again c = (subst⁻¹ Made (c .before .before .show-piece .ensures) (taken (c .before .before .before .before .before .before .before .before .before .loop .inv .0) _), search needs)
 
 returns-2 : tie.Need-returns-2 Inv-loop μ-loop
 returns-2 c = search needs
@@ -68,6 +73,7 @@ main-spec =
     read-full-requires
     array-share-prefix-piece
     slice-aggregate-show-piece
+    slice-aggregate-show-piece-2
     show-piece-requires
     show-end-requires
     returns

@@ -4,20 +4,20 @@ use borrow.Author.Needs.{needs}
 use Rattle.list_conditions.proofs.show_piece.Statement.{statement}
 use Rattle.list_conditions.proofs.show_piece.Tie as tie
 
-slice-aggregate-put-piece : tie.Need-slice-aggregate-put-piece
-slice-aggregate-put-piece c = search needs
-
 put-piece-requires : tie.Need-put-piece-requires
 put-piece-requires c κs = search needs
 
-array-share-prefix-out : tie.Need-array-share-prefix-out
-array-share-prefix-out c = search needs
+slice-reshare-prefix-write-all : tie.Need-slice-reshare-prefix-write-all
+slice-reshare-prefix-write-all c = search needs
 
 slice-aggregate-write-all : tie.Need-slice-aggregate-write-all
-slice-aggregate-write-all c = poured-counts (c .before .before .put-piece .ensures .1)
+slice-aggregate-write-all c = poured-counts (c .before .before .before .put-piece .ensures .1)
 
 write-all-requires : tie.Need-write-all-requires
 write-all-requires c κs = search needs
+
+same-length : tie.Need-same-length
+same-length c = search needs
 
 returns : tie.Need-returns
 returns c = search needs
@@ -26,9 +26,9 @@ pub show-piece-spec : {M : Type 1} → statement M
 show-piece-spec =
     tie.close
     (tie.spec
-    slice-aggregate-put-piece
     put-piece-requires
-    array-share-prefix-out
+    slice-reshare-prefix-write-all
     slice-aggregate-write-all
     write-all-requires
+    same-length
     returns)
