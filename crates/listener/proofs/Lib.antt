@@ -1,4 +1,5 @@
 pub mod Every
+pub mod Fresh
 pub mod Hearing
 pub mod Lent
 pub mod Promises

@@ -49,6 +49,12 @@ telegram-four-of κs handed answer other lasts others p q = (agree p q, refl)
 
 -- ---- telegram_reader
 
+pub telegram-reader-refusal-of : OneAnswer telegram-reader.refusal_of.ended telegram-reader.refusal_of.Reads.Learnt
+telegram-reader-refusal-of κs handed answer other lasts others p q = (agree p q, refl)
+
+pub telegram-reader-place-slot : OneAnswer telegram-reader.place_slot.ended telegram-reader.place_slot.Reads.Learnt
+telegram-reader-place-slot κs handed answer other lasts others p q = (agree p q, refl)
+
 pub telegram-reader-read : OneAnswer telegram-reader.read.ended telegram-reader.read.Reads.Learnt
 telegram-reader-read κs handed answer other lasts others p q = (agree p q, refl)
 

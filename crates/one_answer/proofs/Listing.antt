@@ -4,8 +4,6 @@ use Rattle.kit.proofs.Cases.{given}
 use Rattle.kit.specs.Contracts.{OneAnswer}
 use Rattle.kit.proofs.Contracts.{agree, agree-poured}
 use Rattle.listing_words.proofs as listing-words
-use Rattle.listing_seconds.proofs as listing-seconds
-use Rattle.listing_entries.proofs as listing-entries
 use Rattle.listing_lines.proofs as listing-lines
 use Rattle.listing_reader.proofs as listing-reader
 use Rattle.listing_tables.proofs as listing-tables
@@ -18,29 +16,10 @@ use Rattle.exports.proofs as exports
 pub listing-words-put-number : OneAnswer listing-words.put_number.ended listing-words.put_number.Reads.Learnt
 listing-words-put-number κs handed answer other lasts others p q = given (agree-poured p q) (λ (place, bytes). (place, ap (λ b. (tt, (tt, (b, (tt, tt))))) bytes))
 
-pub listing-words-put-distance : OneAnswer listing-words.put_distance.ended listing-words.put_distance.Reads.Learnt
-listing-words-put-distance κs handed answer other lasts others p q = given (agree-poured p q) (λ (place, bytes). (place, ap (λ b. (tt, (b, (tt, tt)))) bytes))
-
-pub listing-words-put-mark : OneAnswer listing-words.put_mark.ended listing-words.put_mark.Reads.Learnt
-listing-words-put-mark κs handed answer other lasts others p q = given (agree-poured p q) (λ (place, bytes). (place, ap (λ b. (tt, (b, (tt, tt)))) bytes))
-
--- ---- listing_seconds
-
-pub listing-seconds-put-second : OneAnswer listing-seconds.put_second.ended listing-seconds.put_second.Reads.Learnt
-listing-seconds-put-second κs handed answer other lasts others p q = given (agree-poured p q) (λ (place, bytes). (place, ap (λ b. (tt, (b, (tt, tt)))) bytes))
-
--- ---- listing_entries
-
-pub listing-entries-put-entry : OneAnswer listing-entries.put_entry.ended listing-entries.put_entry.Reads.Learnt
-listing-entries-put-entry κs handed answer other lasts others p q = given (agree-poured p q) (λ (place, bytes). (place, ap (λ b. (tt, (tt, (tt, (b, (tt, tt)))))) bytes))
-
 -- ---- listing_lines
 
 pub listing-lines-put-header : OneAnswer listing-lines.put_header.ended listing-lines.put_header.Reads.Learnt
 listing-lines-put-header κs handed answer other lasts others p q = given (agree-poured p q) (λ (place, bytes). (place, ap (λ b. (b, (tt, tt))) bytes))
-
-pub listing-lines-put-table-line : OneAnswer listing-lines.put_table_line.ended listing-lines.put_table_line.Reads.Learnt
-listing-lines-put-table-line κs handed answer other lasts others p q = given (agree-poured p q) (λ (place, bytes). (place, ap (λ b. (tt, (tt, (tt, (b, (tt, tt)))))) bytes))
 
 pub listing-lines-put-refused : OneAnswer listing-lines.put_refused.ended listing-lines.put_refused.Reads.Learnt
 listing-lines-put-refused κs handed answer other lasts others p q = given (agree-poured p q) (λ (place, bytes). (place, ap (λ b. (tt, (b, (tt, tt)))) bytes))
@@ -59,7 +38,7 @@ listing-reader-code-of κs handed answer other lasts others p q = (agree p q, re
 -- ---- listing_tables
 
 pub listing-tables-put-heard : OneAnswer listing-tables.put_heard.ended listing-tables.put_heard.Reads.Learnt
-listing-tables-put-heard κs handed answer other lasts others p q = given (agree-poured p q) (λ (place, bytes). (place, ap (λ b. (tt, (b, (tt, tt)))) bytes))
+listing-tables-put-heard κs handed answer other lasts others p q = given (agree-poured p q) (λ (place, bytes). (place, ap (λ b. (tt, (tt, (b, (tt, tt))))) bytes))
 
 pub listing-tables-tables-of : OneAnswer listing-tables.tables_of.ended listing-tables.tables_of.Reads.Learnt
 listing-tables-tables-of κs handed answer other lasts others p q = (agree p q, refl)

@@ -9,7 +9,6 @@ use Rattle.train_codes.proofs as train-codes
 use Rattle.train_telegram.proofs as train-telegram
 use Rattle.signals.proofs as signals
 use Rattle.signals_in_place.proofs as signals-in-place
-use Rattle.state_words.proofs as state-words
 use Rattle.signals_output.proofs as signals-output
 use Rattle.signal_runs.proofs as signal-runs
 
@@ -50,20 +49,6 @@ signals-in-place-update = demand1 .train-lent .defined
 
 pub signals-in-place-lend-and-update : OneAnswer signals-in-place.lend_and_update.ended signals-in-place.lend_and_update.Reads.Learnt
 signals-in-place-lend-and-update κs handed answer other lasts others p q = (agree p q, refl)
-
--- ---- state_words
-
-pub state-words-put-cab : OneAnswer state-words.put_cab.ended state-words.put_cab.Reads.Learnt
-state-words-put-cab κs handed answer other lasts others p q = given (agree-poured p q) (λ (place, bytes). (place, ap (λ b. (tt, (b, (tt, tt)))) bytes))
-
-pub state-words-put-brake : OneAnswer state-words.put_brake.ended state-words.put_brake.Reads.Learnt
-state-words-put-brake κs handed answer other lasts others p q = given (agree-poured p q) (λ (place, bytes). (place, ap (λ b. (tt, (b, (tt, tt)))) bytes))
-
-pub state-words-put-isolation : OneAnswer state-words.put_isolation.ended state-words.put_isolation.Reads.Learnt
-state-words-put-isolation κs handed answer other lasts others p q = given (agree-poured p q) (λ (place, bytes). (place, ap (λ b. (tt, (b, (tt, tt)))) bytes))
-
-pub state-words-put-traction : OneAnswer state-words.put_traction.ended state-words.put_traction.Reads.Learnt
-state-words-put-traction κs handed answer other lasts others p q = given (agree-poured p q) (λ (place, bytes). (place, ap (λ b. (tt, (b, (tt, tt)))) bytes))
 
 -- ---- signals_output
 

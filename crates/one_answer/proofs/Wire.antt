@@ -5,6 +5,8 @@ use Rattle.kit.specs.Contracts.{OneAnswer}
 use Rattle.kit.proofs.Contracts.{agree, agree-poured}
 use Rattle.wire.proofs as wire
 use Rattle.text.proofs as text
+use Rattle.page.proofs as page
+use Rattle.page.proofs.Pages.{agree-laid}
 use Rattle.frames.proofs as frames
 
 -- ---- wire
@@ -41,8 +43,31 @@ text-put-words κs handed answer other lasts others p q = given (agree-poured p 
 pub text-put-decimal : OneAnswer text.put_decimal.ended text.put_decimal.Reads.Learnt
 text-put-decimal κs handed answer other lasts others p q = given (agree-poured p q) (λ (place, bytes). (place, ap (λ b. (b, (tt, (tt, tt)))) bytes))
 
-pub text-put-hexadecimal : OneAnswer text.put_hexadecimal.ended text.put_hexadecimal.Reads.Learnt
-text-put-hexadecimal κs handed answer other lasts others p q = given (agree-poured p q) (λ (place, bytes). (place, ap (λ b. (b, (tt, (tt, (tt, tt))))) bytes))
+-- ---- page
+
+pub page-put-byte-if : OneAnswer page.put_byte_if.ended page.put_byte_if.Reads.Learnt
+page-put-byte-if κs handed answer other lasts others p q = given (agree-laid p q) (λ (place, bytes). (place, ap (λ b. (b, (tt, (tt, (tt, tt))))) bytes))
+
+pub page-put-byte : OneAnswer page.put_byte.ended page.put_byte.Reads.Learnt
+page-put-byte κs handed answer other lasts others p q = given (agree-laid p q) (λ (place, bytes). (place, ap (λ b. (b, (tt, (tt, tt)))) bytes))
+
+pub page-put-number : OneAnswer page.put_number.ended page.put_number.Reads.Learnt
+page-put-number κs handed answer other lasts others p q = given (agree-laid p q) (λ (place, bytes). (place, ap (λ b. (b, (tt, (tt, (tt, tt))))) bytes))
+
+pub page-put-bare-number : OneAnswer page.put_bare_number.ended page.put_bare_number.Reads.Learnt
+page-put-bare-number κs handed answer other lasts others p q = given (agree-laid p q) (λ (place, bytes). (place, ap (λ b. (b, (tt, (tt, tt)))) bytes))
+
+pub page-put-short-text : OneAnswer page.put_short_text.ended page.put_short_text.Reads.Learnt
+page-put-short-text κs handed answer other lasts others p q = given (agree-laid p q) (λ (place, bytes). (place, ap (λ b. (b, (tt, (tt, tt)))) bytes))
+
+pub page-put-word : OneAnswer page.put_word.ended page.put_word.Reads.Learnt
+page-put-word κs handed answer other lasts others p q = given (agree-laid p q) (λ (place, bytes). (place, ap (λ b. (b, (tt, (tt, tt)))) bytes))
+
+pub page-put-hexadecimal : OneAnswer page.put_hexadecimal.ended page.put_hexadecimal.Reads.Learnt
+page-put-hexadecimal κs handed answer other lasts others p q = given (agree-laid p q) (λ (place, bytes). (place, ap (λ b. (b, (tt, (tt, tt)))) bytes))
+
+pub page-word-of : OneAnswer page.word_of.ended page.word_of.Reads.Learnt
+page-word-of κs handed answer other lasts others p q = (agree p q, refl)
 
 -- ---- frames
 
