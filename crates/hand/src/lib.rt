@@ -77,11 +77,14 @@ fn packet_in(telegram: &[u8]) -> u8
     (wire::word_at(telegram, 0) / STEPS) as u8
 }
 
-// The four slots of a telegram from slot i of the set on.
+// The four slots of a telegram from slot i of the set on. The test is never met; by it the compiler knows that each of the four has a place.
 fn put_four(memory: &mut [u8; 310], i: usize, telegram: &[u8])
     requires { ⌜ i ≤ 16 ⌝ }
     ensures { λ _. ⌜ now (memory .exit) ≡ fourIn (now (telegram .entry)) i (now (memory .entry)) 4 ⌝ }
 {
+    if i > 16 {
+        return;
+    }
     let mut k: usize = 0;
     while k < 4 {
         memory::put_slot(memory, i + k, telegram_reader::place_slot(telegram, k));

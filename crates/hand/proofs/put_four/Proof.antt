@@ -17,6 +17,9 @@ Inv-loop memory₀ i telegram k₀ memory k = (k ≤ 4) × (memory ≡ fourIn te
 abbrev μ-loop : tie.MeasureT-loop
 μ-loop memory₀ i telegram k₀ memory k = 4 - k
 
+returns : tie.Need-returns Inv-loop μ-loop
+returns c = absurd (omega (arith, c .if1 .taken, c .before .before .pre))
+
 loop-holds : tie.Need-loop-holds Inv-loop μ-loop
 unfolding fourIn fold
 loop-holds c = (search needs, refl)
@@ -40,17 +43,17 @@ loop-again : tie.Need-loop-again Inv-loop μ-loop
 unfolding fourIn
 loop-again c =
     let l = c .before .before .before .before .loop in
-    let a = c .before .before .before .before .before .before .args in
+    let a = c .before .before .before .before .before .before .before .args in
     let slot = c .before .place-slot .ensures in (
       search needs,
       fold-turn (λ k so-far. withSlot so-far (a .i + k) (placeSlot (a .telegram .now) k)) (a .memory .now) (l .memory) _ (l .k) (l .inv .1)
           (c .put-slot .ensures ∙ ap (withSlot (l .memory) (a .i + l .k)) slot),
     )
 
-returns : tie.Need-returns Inv-loop μ-loop
-returns c =
+returns-2 : tie.Need-returns-2 Inv-loop μ-loop
+returns-2 c =
     let l = c .before .loop in
-    let a = c .before .before .before .args in
+    let a = c .before .before .before .before .args in
     let past : 4 ≤ l .k = search needs in
     let all : l .k ≡ 4 = omega (arith, l .inv .0, past) in
     l .inv .1 ∙ ap (fourIn (a .telegram .now) (a .i) (a .memory .now)) all
@@ -61,6 +64,7 @@ put-four-spec =
     (tie.spec
     Inv-loop
     μ-loop
+    returns
     loop-holds
     add-put-slot
     place-slot-requires
@@ -68,4 +72,4 @@ put-four-spec =
     add-k
     loop-less
     loop-again
-    returns)
+    returns-2)
