@@ -8,19 +8,19 @@ use lib.Dec.{eqb, leb}
 use lib.ListN.{length, getD, replicate, length-map, length-replicate}
 use lib.Seq.{ext-getD}
 use native.Mathlib.Omega.{arith}
-use borrow.Author.Tests.{eq-eqb, ne-eqb, le-leb, lt-leb}
+use borrow.Author.Tests.{eqb-true, eq-eqb, ne-eqb, le-leb, lt-leb}
 use Rattle.kit.specs.Loops.{any}
-use Rattle.kit.proofs.Cases.{on}
+use Rattle.kit.proofs.Cases.{on, given, and-both}
 use Rattle.kit.proofs.Each.{length-one-each, one-each-at}
 use Rattle.kit.proofs.Loops.{any-same, any-when}
 use Rattle.kit.proofs.Maps.{replicate-at}
 use Rattle.condition.specs.Slots.{isOccupied, slots}
 use Rattle.condition.specs.declared.slots.Slot.{Slot}
 use Rattle.telegram.specs.Tables.{tableSlot}
-use Rattle.memory.specs.Memory.{setFrom, slotPlace, slotAt, pictureIn, setIn}
+use Rattle.memory.specs.Memory.{setFrom, slotPlace, slotAt, kindFrom, pictureIn, setIn}
 use Rattle.memory.proofs.Slots.{slot-in, length-table, slot-number, slot-occupied, slot-kind}
 use Rattle.marks.specs.Marks.{isSame, isKnown, isCarried, marksOf}
-use Rattle.marks.specs.Lent.{kindAt, hasBoth, isThere, allThere}
+use Rattle.marks.specs.Lent.{kindAt, hasBoth, isAlike, isThere, allThere}
 use Rattle.marks.proofs.Carrying.{mark-at, none-carried}
 
 -- the slot whose bytes begin at `at`, occupied or not, is known when a slot of the picture has its number with its type
@@ -64,9 +64,22 @@ module _ (memory : List ℕ) (i : ℕ) where
         ∙ (ap (λ (k : ℕ). any (hasBoth memory number k) 0 slots) same
         ∙ sym (ap (λ b. b && any (hasBoth memory number (kindAt memory (slotPlace setFrom i))) 0 slots) (ap not (ne-eqb shape 0 occupied))))
 
-    -- a slot that has both makes it there
-    pub there-here : i < slots → hasBoth memory number kind i ≡ true → true ≡ isThere memory i
-    there-here p both = there-known true (sym (any-when (hasBoth memory number kind) 0 slots i (omega arith) (omega arith) both))
+  -- slots that begin alike have one number and one type
+  alike-both : isAlike memory i ≡ true → hasBoth memory number (kindAt memory (slotPlace setFrom i)) i ≡ true
+  unfolding isAlike
+  alike-both h =
+      given (and-both _ _ h)
+      (λ (first, rest).
+      given (and-both _ _ rest)
+      (λ (second, third).
+      ap₂ _&&_ (eq-eqb (getD memory (slotPlace 0 i) 0) number (sym (eqb-true _ _ first)))
+      (eq-eqb (kindAt memory (slotPlace 0 i)) (kindAt memory (slotPlace setFrom i)) (sym (ap₂ kindFrom (eqb-true _ _ second) (eqb-true _ _ third))))))
+
+  -- so an occupied slot that begins as the picture's does is there
+  pub there-alike : (shape ≡ 0 → ⊥) → i < slots → isAlike memory i ≡ true → true ≡ isThere memory i
+  there-alike occupied p alike =
+      there-known occupied (kindAt memory (slotPlace setFrom i)) refl true
+      (sym (any-when (hasBoth memory number (kindAt memory (slotPlace setFrom i))) 0 slots i (omega arith) (omega arith) (alike-both alike)))
 
 -- ---- marks
 

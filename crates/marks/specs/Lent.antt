@@ -17,6 +17,13 @@ kindAt memory at = kindFrom (getD memory (at + 1) 0) (getD memory (at + 2) 0)
 abbrev pub hasBoth : List ℕ → ℕ → ℕ → ℕ → Bool
 hasBoth memory number kind j = eqb (getD memory (slotPlace 0 j) 0) number && eqb (kindAt memory (slotPlace 0 j)) kind
 
+-- slot i of the set begins with the three bytes of slot i of the picture: its number, what it holds, and the byte after that
+unfoldable pub isAlike : List ℕ → ℕ → Bool
+isAlike memory i =
+    eqb (getD memory (slotPlace setFrom i) 0) (getD memory (slotPlace 0 i) 0)
+    && (eqb (getD memory (slotPlace setFrom i + 1) 0) (getD memory (slotPlace 0 i + 1) 0)
+    && eqb (getD memory (slotPlace setFrom i + 2) 0) (getD memory (slotPlace 0 i + 2) 0))
+
 -- slot i of the set is occupied, and some slot of the picture has its number with its type
 unfoldable pub isThere : List ℕ → ℕ → Bool
 isThere memory i =

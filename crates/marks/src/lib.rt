@@ -11,7 +11,7 @@ ghost use Rattle.kit.specs.Loops.{any};
 ghost use Rattle.condition.specs.Slots.{slots};
 ghost use Rattle.memory.specs.Memory.{kindFrom, pictureIn, setIn};
 ghost use Rattle.marks.specs.Marks.{marksOf};
-ghost use Rattle.marks.specs.Lent.{hasBoth, isThere, allThere};
+ghost use Rattle.marks.specs.Lent.{hasBoth, isAlike, isThere, allThere};
 
 // The type of a slot, by the byte that says what it holds and the byte after it.
 fn kind_of(shape: u8, own: u8) -> u8
@@ -51,8 +51,24 @@ fn is_known(memory: &[u8; 310], number: u8, kind: u8) -> bool
     false
 }
 
+// Whether slot i of the set and slot i of the picture begin with the same three bytes: then they have one number and one type.
+fn is_alike(memory: &[u8; 310], i: usize) -> bool
+    requires { ⌜ i < 20 ⌝ }
+    ensures { λ r. ⌜ r ≡ isAlike (now (memory .entry)) i ⌝ }
+{
+    let at = SET + SLOT * i;
+    let before = PICTURE + SLOT * i;
+    if memory[at] != memory[before] {
+        return false;
+    }
+    if memory[at + 1] != memory[before + 1] {
+        return false;
+    }
+    memory[at + 2] == memory[before + 2]
+}
+
 // Whether slot i of the set is occupied and the picture has its number with its type. Most often it stands where it stood before, in
-// slot i: that one is looked at first.
+// slot i: that one is looked at first, and by its bytes, so that no type need be found.
 fn is_there(memory: &[u8; 310], i: usize) -> bool
     requires { ⌜ i < 20 ⌝ }
     ensures { λ r. ⌜ r ≡ isThere (now (memory .entry)) i ⌝ }
@@ -61,10 +77,10 @@ fn is_there(memory: &[u8; 310], i: usize) -> bool
     if memory[at + 1] == 0 {
         return false;
     }
-    let kind = kind_of(memory[at + 1], memory[at + 2]);
-    if has_both(memory, i, memory[at], kind) {
+    if is_alike(memory, i) {
         return true;
     }
+    let kind = kind_of(memory[at + 1], memory[at + 2]);
     is_known(memory, memory[at], kind)
 }
 

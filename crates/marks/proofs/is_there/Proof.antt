@@ -1,7 +1,7 @@
--- `is_there`: nothing in the slot, the picture's slot i, or any of its slots decides.
+-- `is_there`: nothing in the slot, the first bytes of the picture's slot i, or any of its slots decides.
 use mathlib.Core.Path.{sym, _∙_}
 use borrow.Author.Needs.{needs}
-use Rattle.marks.proofs.Lent.{there-empty, there-here, there-known}
+use Rattle.marks.proofs.Lent.{there-empty, there-known, there-alike}
 use Rattle.marks.proofs.is_there.Statement.{statement}
 use Rattle.marks.proofs.is_there.Tie as tie
 
@@ -20,6 +20,15 @@ element-copy-out-if1 c = search needs
 returns : tie.Need-returns
 returns c = let a = c .before .before .args in there-empty (a .memory .now) (a .i) (c .if1 .taken)
 
+is-alike-requires : tie.Need-is-alike-requires
+is-alike-requires c κs = search needs
+
+returns-2 : tie.Need-returns-2
+returns-2 c =
+    let left = c .before .before in
+    let a = left .before .before .args in
+    there-alike (a .memory .now) (a .i) (left .if1 .left) (search needs) (sym (c .before .is-alike .ensures) ∙ c .if2 .taken)
+
 add-kind-of : tie.Need-add-kind-of
 add-kind-of c = search needs
 
@@ -35,19 +44,6 @@ element-copy-out-kind-of-2 c = search needs
 kind-of-requires : tie.Need-kind-of-requires
 kind-of-requires c κs = search needs
 
-element-copy-out-has-both : tie.Need-element-copy-out-has-both
-element-copy-out-has-both c = search needs
-
-has-both-requires : tie.Need-has-both-requires
-has-both-requires c κs = search needs
-
-returns-2 : tie.Need-returns-2
-returns-2 c =
-    let kind = c .before .before .before in
-    let left = kind .before .before .before in
-    let a = left .before .before .args in
-    there-here (a .memory .now) (a .i) (left .if1 .left) _ (kind .kind-of .ensures) (search needs) (sym (c .before .has-both .ensures) ∙ c .if2 .taken)
-
 element-copy-out-is-known : tie.Need-element-copy-out-is-known
 element-copy-out-is-known c = search needs
 
@@ -56,8 +52,8 @@ is-known-requires c κs = search needs
 
 returns-3 : tie.Need-returns-3
 returns-3 c =
-    let kind = c .before .before .before .before .before in
-    let left = kind .before .before .before in
+    let kind = c .before .before in
+    let left = kind .before .before .before .before .before in
     let a = left .before .before .args in
     there-known (a .memory .now) (a .i) (left .if1 .left) _ (kind .kind-of .ensures) _ (c .is-known .ensures)
 
@@ -70,14 +66,13 @@ is-there-spec =
     add-if1
     element-copy-out-if1
     returns
+    is-alike-requires
+    returns-2
     add-kind-of
     element-copy-out-kind-of
     add-kind-of-2
     element-copy-out-kind-of-2
     kind-of-requires
-    element-copy-out-has-both
-    has-both-requires
-    returns-2
     element-copy-out-is-known
     is-known-requires
     returns-3)
