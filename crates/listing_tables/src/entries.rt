@@ -114,9 +114,9 @@ fn put_numbers(page: &mut [u8], at: usize, place: u8, number: u8, kind: u8) -> u
     requires { ⌜ at + 16 ≤ length (now page) ⌝ }
     ensures { λ r. ⌜ Paged 12 (now (page .entry)) at (numberThen place blank ++ (numberThen number blank ++ numberThen kind blank)) (now (page .exit)) r ⌝ }
 {
-    let second = page::put_number(page, at, place as u16, BLANK);
+    let second = page::put_short_number(page, at, place, BLANK);
     let third = page::put_number(page, second, number as u16, BLANK);
-    page::put_number(page, third, kind as u16, BLANK)
+    page::put_short_number(page, third, kind, BLANK)
 }
 
 // What the first and the second word say.

@@ -54,6 +54,9 @@ page-put-byte κs handed answer other lasts others p q = given (agree-laid p q) 
 pub page-put-number : OneAnswer page.put_number.ended page.put_number.Reads.Learnt
 page-put-number κs handed answer other lasts others p q = given (agree-laid p q) (λ (place, bytes). (place, ap (λ b. (b, (tt, (tt, (tt, tt))))) bytes))
 
+pub page-put-short-number : OneAnswer page.put_short_number.ended page.put_short_number.Reads.Learnt
+page-put-short-number κs handed answer other lasts others p q = given (agree-laid p q) (λ (place, bytes). (place, ap (λ b. (b, (tt, (tt, (tt, tt))))) bytes))
+
 pub page-put-bare-number : OneAnswer page.put_bare_number.ended page.put_bare_number.Reads.Learnt
 page-put-bare-number κs handed answer other lasts others p q = given (agree-laid p q) (λ (place, bytes). (place, ap (λ b. (b, (tt, (tt, tt)))) bytes))
 

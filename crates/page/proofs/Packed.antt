@@ -216,20 +216,23 @@ most-if false d p = omega arith
 
 -- ---- what the code packs
 
-eight-made : (a b c d e f : ℕ) → a + b * 0x100 + c * 0x10000 + d * 0x1000000 + e * 0x100000000 + f * 0x10000000000 + 0x3030000000000000 ≡ made (a ∷ b ∷ c ∷ d ∷ e ∷ f ∷ 48 ∷ 48 ∷ [])
+digits-made : (a b c d e f : ℕ) → (48 + a) + (b + c * 0x100 + d * 0x10000 + e * 0x1000000 + 0x30303030) * 0x100 + f * 0x10000000000 + 0x3030000000000000 ≡ made ((48 + a) ∷ (48 + b) ∷ (48 + c) ∷ (48 + d) ∷ (48 + e) ∷ f ∷ 48 ∷ 48 ∷ [])
 unfolding made
-eight-made a b c d e f = omega arith
+digits-made a b c d e f = omega arith
+
+-- the last four digits of a number, as bytes of a number
+abbrev fourDigits : ℕ → ℕ
+fourDigits n = n / 1000 % 10 + n / 100 % 10 * 0x100 + n / 10 % 10 * 0x10000 + n % 10 * 0x1000000
 
 five : (n after : ℕ) → n < 100000
-    → (48 + n / 10000) + (48 + n / 1000 % 10) * 0x100 + (48 + n / 100 % 10) * 0x10000 + (48 + n / 10 % 10) * 0x1000000 + (48 + n % 10) * 0x100000000 + after * 0x10000000000 + 0x3030000000000000
-    ≡ made (lastDigits 5 n ++ (after ∷ 48 ∷ 48 ∷ []))
+    → (48 + n / 10000) + (fourDigits n + 0x30303030) * 0x100 + after * 0x10000000000 + 0x3030000000000000 ≡ made (lastDigits 5 n ++ (after ∷ 48 ∷ 48 ∷ []))
 unfolding made lastDigits
 five n after p =
     let first : n / 10000 ≡ n / 10 / 10 / 10 / 10 % 10 = omega arith in
     let second : n / 1000 ≡ n / 10 / 10 / 10 = omega arith in
     let third : n / 100 ≡ n / 10 / 10 = omega arith in
     rw (first, second, third)
-    (eight-made (48 + n / 10 / 10 / 10 / 10 % 10) (48 + n / 10 / 10 / 10 % 10) (48 + n / 10 / 10 % 10) (48 + n / 10 % 10) (48 + n % 10) after)
+    (digits-made (n / 10 / 10 / 10 / 10 % 10) (n / 10 / 10 / 10 % 10) (n / 10 / 10 % 10) (n / 10 % 10) (n % 10) after)
 
 -- ---- what is left of it after the shift, of d digits before the last; and that its lowest bytes are the decimal and the byte after it
 
@@ -240,11 +243,11 @@ two-fill : Small (48 ∷ 48 ∷ [])
 two-fill = one {byte = 48} (omega arith) (one {byte = 48} (omega arith) none)
 
 module _ (n after d : ℕ) (p : n < 65536) (q : after < 256) (e : d ≡ digitsBefore n) where
-  pub five-piece : ((48 + n / 10000) + (48 + n / 1000 % 10) * 0x100 + (48 + n / 100 % 10) * 0x10000 + (48 + n / 10 % 10) * 0x1000000 + (48 + n % 10) * 0x100000000 + after * 0x10000000000 + 0x3030000000000000) / 2 ^ (8 * (4 - d))
-      ≡ made (decimal n ++ (after ∷ 48 ∷ 48 ∷ []))
-  five-piece =
+  pub five-piece : (four : ℕ) → four ≡ fourDigits n
+      → ((48 + n / 10000) + (four + 0x30303030) * 0x100 + after * 0x10000000000 + 0x3030000000000000) / 2 ^ (8 * (4 - d)) ≡ made (decimal n ++ (after ∷ 48 ∷ 48 ∷ []))
+  five-piece four f =
       let own : Counted d n = counted-as-told (omega arith) e in
-      ap (λ x. x / 2 ^ (8 * (4 - d))) (five n after (omega arith))
+      ap (λ x. x / 2 ^ (8 * (4 - d))) (ap (λ x. (48 + n / 10000) + (x + 0x30303030) * 0x100 + after * 0x10000000000 + 0x3030000000000000) f ∙ five n after (omega arith))
       ∙ packed-piece 4 d n after (48 ∷ 48 ∷ []) (omega (arith, before-most n)) (own .below) (own .above) q two-fill
 
   pub five-shown : (wanted : Bool) → decimal n ++ cond wanted (after ∷ []) [] ≡ lowBytes (d + 1 + boolByte wanted) (made (decimal n ++ (after ∷ 48 ∷ 48 ∷ [])))
@@ -252,6 +255,16 @@ module _ (n after d : ℕ) (p : n < 65536) (q : after < 256) (e : d ≡ digitsBe
       let own : Counted d n = counted-as-told (omega arith) e in
       ap (λ l. decimal n ++ l) (sym (kept-if wanted after (48 ∷ 48 ∷ [])))
       ∙ packed-shown 4 d n after (48 ∷ 48 ∷ []) (omega (arith, before-most n)) (own .below) (own .above) q two-fill (boolByte wanted) (omega (arith, flags-fit wanted))
+
+-- ---- one digit and the byte after it
+
+module _ (n after : ℕ) (p : n < 10) where
+  pub one-piece : made (decimal n ++ (after ∷ 48 ∷ 48 ∷ [])) ≡ (48 + n) + after * 0x100 + 0x30300000
+  unfolding made
+  one-piece = ap (λ digits. made (digits ++ (after ∷ 48 ∷ 48 ∷ []))) (decimal-one n p) ∙ omega arith
+
+  pub one-shown : after < 256 → decimal n ++ (after ∷ []) ≡ lowBytes 2 (made (decimal n ++ (after ∷ 48 ∷ 48 ∷ [])))
+  one-shown q = five-shown n after 0 (omega arith) q (sym (before-0 n p)) true
 
 -- a byte has at most three digits
 pub byte-then : (n after : ℕ) → n < 256 → length (decimal n ++ (after ∷ [])) ≤ 4

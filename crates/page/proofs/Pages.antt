@@ -94,6 +94,10 @@ laid-full {w} {x} {l} {i} e = record { exact = rw e refl; place = rw e refl; pag
 pub laid-room : {w x : ℕ} {l m : List ℕ} {i j : ℕ} {a s : List ℕ} → leb (i + w) (length l) ≡ true → m ≡ sets l i s → Paged x l i a m j → Laid w x l i a s m j
 laid-room e same put = record { exact = rw e same; place = rw e (put .past); paged = λ room. put }
 
+-- within a bound that the bytes keep
+pub laid-tight : {w x y : ℕ} {l m : List ℕ} {i j : ℕ} {a s : List ℕ} → length a ≤ y → Laid w x l i a s m j → Laid w y l i a s m j
+laid-tight le laid = record { exact = laid .exact; place = laid .place; paged = λ room. paged-tight le (laid .paged room) }
+
 -- the same bytes, put and stored, under other names and a larger bound
 pub laid-as : {w x y : ℕ} {l m : List ℕ} {i j : ℕ} {a b s t : List ℕ} → a ≡ b → s ≡ t → x ≤ y → Laid w x l i b t m j → Laid w y l i a s m j
 laid-as {w} {x} {y} {l} {m} {i} {j} {a} {b} {s} {t} put stored le laid =

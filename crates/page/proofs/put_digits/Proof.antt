@@ -13,6 +13,9 @@ use Rattle.page.proofs.put_digits.Tie as tie
 add-eight : tie.Need-add-eight
 add-eight c = search needs
 
+last-four-requires : tie.Need-last-four-requires
+last-four-requires c κs = search needs
+
 add-eight-2 : tie.Need-add-eight-2
 add-eight-2 c = search needs
 
@@ -22,41 +25,14 @@ mul-eight c = search needs
 add-eight-3 : tie.Need-add-eight-3
 add-eight-3 c = search needs
 
-add-eight-4 : tie.Need-add-eight-4
-add-eight-4 c = search needs
-
 mul-eight-2 : tie.Need-mul-eight-2
 mul-eight-2 c = search needs
 
+add-eight-4 : tie.Need-add-eight-4
+add-eight-4 c = search needs
+
 add-eight-5 : tie.Need-add-eight-5
 add-eight-5 c = search needs
-
-add-eight-6 : tie.Need-add-eight-6
-add-eight-6 c = search needs
-
-mul-eight-3 : tie.Need-mul-eight-3
-mul-eight-3 c = search needs
-
-add-eight-7 : tie.Need-add-eight-7
-add-eight-7 c = search needs
-
-add-eight-8 : tie.Need-add-eight-8
-add-eight-8 c = search needs
-
-mul-eight-4 : tie.Need-mul-eight-4
-mul-eight-4 c = search needs
-
-add-eight-9 : tie.Need-add-eight-9
-add-eight-9 c = search needs
-
-mul-eight-5 : tie.Need-mul-eight-5
-mul-eight-5 c = search needs
-
-add-eight-10 : tie.Need-add-eight-10
-add-eight-10 c = search needs
-
-add-eight-11 : tie.Need-add-eight-11
-add-eight-11 c = search needs
 
 more-requires : tie.Need-more-requires
 more-requires c κs = search needs
@@ -77,22 +53,23 @@ cast-put-piece : tie.Need-cast-put-piece
 cast-put-piece c = search needs
 
 add-put-piece-2 : tie.Need-add-put-piece-2
-add-put-piece-2 c = omega (arith, flags-fit (c .before .before .before .args .wanted))
+add-put-piece-2 c = omega (arith, flags-fit (c .before .before .before .before .args .wanted))
 
 put-piece-requires : tie.Need-put-piece-requires
-put-piece-requires c κs = omega (arith, flags-fit (c .before .before .before .args .wanted))
+put-piece-requires c κs = omega (arith, flags-fit (c .before .before .before .before .args .wanted))
 
 same-length : tie.Need-same-length
 same-length c = search needs
 
 returns : tie.Need-returns
 returns c =
-    let start = c .before .before .before .before .before .before in
+    let four = c .before .before .before .before .before in
+    let start = four .before .before in
     let digits = c .before .before .before .before .more in
     let number = start .args .number in
     let after = start .args .after in
     let wanted = start .args .wanted in
-    let piece = five-piece number after (digits .result) (start .fits .number .fits) (start .fits .after .fits) (digits .ensures .0) in
+    let piece = five-piece number after (digits .result) (start .fits .number .fits) (start .fits .after .fits) (digits .ensures .0) (four .last-four .result) (four .last-four .ensures) in
     let shown = five-shown number after (digits .result) (start .fits .number .fits) (start .fits .after .fits) (digits .ensures .0) wanted in
     laid-as (shown ∙ ap (lowBytes (digits .result + 1 + boolByte wanted)) (sym piece)) (ap (lowBytes 8) (sym piece)) (most-if wanted (digits .result) (digits .ensures .1)) (c .before .before .put-piece .ensures)
 
@@ -101,21 +78,13 @@ put-digits-spec =
     tie.close
     (tie.spec
     add-eight
+    last-four-requires
     add-eight-2
     mul-eight
     add-eight-3
-    add-eight-4
     mul-eight-2
+    add-eight-4
     add-eight-5
-    add-eight-6
-    mul-eight-3
-    add-eight-7
-    add-eight-8
-    mul-eight-4
-    add-eight-9
-    mul-eight-5
-    add-eight-10
-    add-eight-11
     more-requires
     sub-put-piece
     mul-put-piece
