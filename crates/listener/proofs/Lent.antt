@@ -12,7 +12,7 @@ use native.Mathlib.Omega.{arith}
 use borrow.Author.Tests.{ne-eqb}
 use Rattle.kit.specs.Bytes.{word, wordBytes}
 use Rattle.kit.specs.Put.{Put}
-use Rattle.kit.proofs.Cases.{on}
+use Rattle.kit.proofs.Cases.{on, clash}
 use Rattle.kit.proofs.Ladder.{refused-exactly, decides-such}
 use Rattle.kit.proofs.Maps.{replicate-at}
 use Rattle.kit.proofs.Put.{put-then, put-whole}
@@ -237,6 +237,31 @@ module _ (listener : Listener) (sized : Sized listener) where
   pub means-back : listenerIn (bytesOf listener) ≡ listener
   means-back = ap listenerIn (sym built) ∙ parts-back
 
+-- ---- the set that a telegram of this step number goes into, and the memory that has it
+
+module _ (memory : List ℕ) (step : ℕ) where
+  module _ (same : eqb (handIn memory .step) step ≡ true) where
+    pub same-set : handIn memory ≡ setFor (handIn memory) step
+    unfolding setFor
+    same-set = rw same refl
+
+    pub same-memory : memory ≡ memoryFor memory step
+    unfolding memoryFor
+    same-memory = rw same refl
+
+  module _ (other : eqb (handIn memory .step) step ≡ false) where
+    pub new-set : begun step ≡ setFor (handIn memory) step
+    unfolding setFor
+    new-set = rw other refl
+
+    pub new-memory : begunIn memory step ≡ memoryFor memory step
+    unfolding memoryFor
+    new-memory = rw other refl
+
+    pub none-held : (packet : ℕ) → isHeld (setFor (handIn memory) step) packet ≡ false
+    unfolding isHeld begun
+    none-held packet = ap (λ h. isHeld h packet) (sym new-set) ∙ replicate-at packets (packet - firstPacket) false
+
 -- ---- a telegram that goes into a set
 
 marks-length : (limit gap : ℕ) (before table : List Slot) → length table ≡ slots → length (marksOf limit gap before table) ≡ slots
@@ -357,43 +382,47 @@ module _ (memory telegram : List ℕ) (whole : length telegram ≡ 26) (packet :
 
   module _ (long : length memory ≡ room) (later : isLast (lastIn memory) (stepIn telegram) ≡ false) where
     module _ (same : eqb (handIn memory .step) (stepIn telegram) ≡ true) where
-      own-set′ : handIn memory ≡ setFor (handIn memory) (stepIn telegram)
-      unfolding setFor
-      own-set′ = rw same refl
-
-      own-memory : memory ≡ memoryFor memory (stepIn telegram)
-      unfolding memoryFor
-      own-memory = rw same refl
-
       -- a second copy
       pub left-copy : isHeld (handIn memory) (packetIn telegram) ≡ true → Listened Repeat memory
       unfolding listenerIn telegramOf
       left-copy held =
-          record { meant = sym (heard-copy carries before t later (ap (λ h. isHeld h (packetIn telegram)) (sym own-set′) ∙ held)); bytes = refl }
+          record {
+            meant = sym (heard-copy carries before t later (ap (λ h. isHeld h (packetIn telegram)) (sym (same-set memory (stepIn telegram) same)) ∙ held));
+            bytes = refl;
+          }
 
       -- one more of the set in hand
       pub left-more : isHeld (handIn memory) (packetIn telegram) ≡ false → (left : Left) → left ≡ addedLeft carries memory telegram → Listened (left .answer) (left .memory)
-      left-more free left e = left-added memory long own-memory (λ r p. refl) own-set′ later free left e
+      left-more free left e =
+          left-added memory long (same-memory memory (stepIn telegram) same) (λ r p. refl) (same-set memory (stepIn telegram) same) later free left e
 
     -- the first of a set that begins
     module _ (other : eqb (handIn memory .step) (stepIn telegram) ≡ false) where
-      new-set : begun (stepIn telegram) ≡ setFor (handIn memory) (stepIn telegram)
-      unfolding setFor
-      new-set = rw other refl
-
-      new-memory : begunIn memory (stepIn telegram) ≡ memoryFor memory (stepIn telegram)
-      unfolding memoryFor
-      new-memory = rw other refl
-
-      none-held : isHeld (begun (stepIn telegram)) (packetIn telegram) ≡ false
-      unfolding isHeld begun
-      none-held = replicate-at packets (packetIn telegram - firstPacket) false
-
       pub left-first : (left : Left) → left ≡ addedLeft carries (begunIn memory (stepIn telegram)) telegram → Listened (left .answer) (left .memory)
       left-first left e =
-          let hand : handIn (begunIn memory (stepIn telegram)) ≡ begun (stepIn telegram) = begun-hand memory (stepIn telegram) long in
-          left-added (begunIn memory (stepIn telegram)) (begun-length memory (stepIn telegram) ∙ long) new-memory (begun-below memory (stepIn telegram)) (hand ∙ new-set) later
-          (ap (λ h. isHeld h (packetIn telegram)) hand ∙ none-held) left e
+          let own : handIn (begunIn memory (stepIn telegram)) ≡ setFor (handIn memory) (stepIn telegram) =
+          begun-hand memory (stepIn telegram) long ∙ new-set memory (stepIn telegram) other in
+          left-added (begunIn memory (stepIn telegram)) (begun-length memory (stepIn telegram) ∙ long) (new-memory memory (stepIn telegram) other) (begun-below memory (stepIn telegram)) own later
+          (ap (λ h. isHeld h (packetIn telegram)) own ∙ none-held memory (stepIn telegram) other (packetIn telegram)) left e
+
+    -- whichever set it goes into: a second copy, or one more
+    module _ (ready : List ℕ) (e : ready ≡ memoryFor memory (stepIn telegram)) where
+      pub left-found : isHeld (setFor (handIn memory) (stepIn telegram)) (packetIn telegram) ≡ true → Listened Repeat ready
+      left-found held =
+          on (eqb (handIn memory .step) (stepIn telegram))
+          (λ same.
+          subst (Listened Repeat) (same-memory memory (stepIn telegram) same ∙ sym e)
+          (left-copy same (ap (λ h. isHeld h (packetIn telegram)) (same-set memory (stepIn telegram) same) ∙ held)))
+          (λ other. absurd (clash held (none-held memory (stepIn telegram) other (packetIn telegram))))
+
+      pub left-joined : isHeld (setFor (handIn memory) (stepIn telegram)) (packetIn telegram) ≡ false → (left : Left) → left ≡ addedLeft carries ready telegram
+          → Listened (left .answer) (left .memory)
+      left-joined free left added =
+          on (eqb (handIn memory .step) (stepIn telegram))
+          (λ same.
+          left-more same (ap (λ h. isHeld h (packetIn telegram)) (same-set memory (stepIn telegram) same) ∙ free) left
+          (added ∙ ap (λ m. addedLeft carries m telegram) (e ∙ sym (same-memory memory (stepIn telegram) same))))
+          (λ other. left-first other left (added ∙ ap (λ m. addedLeft carries m telegram) (e ∙ sym (new-memory memory (stepIn telegram) other))))
 
 -- ---- the parts of a hearing, by what each call gave
 

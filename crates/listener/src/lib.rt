@@ -9,8 +9,10 @@ use wire::STEPS;
 ghost use Prim.Native.Nat.{_≤_};
 ghost use mathlib.Core.Path.{_≡_};
 ghost use Rattle.telegram.specs.Telegrams.{packetIn, stepIn, telegramOf, readRefusal, readOf};
+ghost use Rattle.hand.specs.Lent.{handIn};
+ghost use Rattle.hand.specs.Sets.{setFor, isHeld};
 ghost use Rattle.listener.specs.Listeners.{carries, freshListener, heardOf, hearOf};
-ghost use Rattle.listener.specs.Lent.{listenerIn, bytesOf, shiftedIn, LeftBy, HeardIn, takenLeft, judgedLeft, addedLeft};
+ghost use Rattle.listener.specs.Lent.{listenerIn, bytesOf, memoryFor, shiftedIn, LeftBy, HeardIn, takenLeft, judgedLeft, addedLeft};
 
 pub struct Listener {
     pub picture: [Slot; 20],
@@ -157,6 +159,17 @@ fn add(memory: &mut [u8; 310], telegram: &[u8]) -> Answer
     Answer::Held
 }
 
+// Whether a packet is held already for the set of this step. A set of another step is dropped, and one of this step begins.
+fn find_or_begin(memory: &mut [u8; 310], step: u16, packet: u8) -> bool
+    ensures { λ r. ⌜ (r ≡ isHeld (setFor (handIn (now (memory .entry))) step) packet) × (now (memory .exit) ≡ memoryFor (now (memory .entry)) step) ⌝ }
+{
+    if hand::step_of(memory) != step {
+        hand::begin(memory, step);
+        return false;
+    }
+    hand::is_held(memory, packet)
+}
+
 // A telegram that the reader accepts.
 fn listen(memory: &mut [u8; 310], telegram: &[u8]) -> Answer
     requires { ⌜ readRefusal (now telegram) ≡ 0 ⌝ }
@@ -169,11 +182,7 @@ fn listen(memory: &mut [u8; 310], telegram: &[u8]) -> Answer
     if last_step::is_last(last, step) {
         return Answer::Repeat;
     }
-    if hand::step_of(memory) != step {
-        hand::begin(memory, step);
-        return add(memory, telegram);
-    }
-    if hand::is_held(memory, packet) {
+    if find_or_begin(memory, step, packet) {
         return Answer::Repeat;
     }
     add(memory, telegram)
