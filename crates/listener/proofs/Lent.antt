@@ -1,22 +1,15 @@
--- What the lent memory means after each way through a hearing: the listener that the definition gives. And that the memory of a listener
--- means that listener.
-use Prim.Native.Nat.{ℕ, _+_, _-_, _*_, _≤_}
+-- What the lent memory means after each way through a hearing: the listener that the definition gives.
+use Prim.Native.Nat.{ℕ, _-_, _≤_}
 use mathlib.Core.Path.{_≡_, refl, sym, ap, ap₂, subst, _∙_}
-use mathlib.Core.Logic.{inl, inr}
 use mathlib.Core.Bool.{Bool, true, false, cond}
-use mathlib.Core.List.{List, _∷_, _++_, map}
+use mathlib.Core.List.{List}
 use lib.Dec.{eqb}
-use lib.ListN.{length, getD, drop, replicate, length-map, length-drop, length-append, length-replicate}
-use lib.Seq.{sets, length-sets, getD-drop}
+use lib.ListN.{length, length-map}
 use native.Mathlib.Omega.{arith}
 use borrow.Author.Tests.{ne-eqb}
-use Rattle.kit.specs.Bytes.{word, wordBytes}
-use Rattle.kit.specs.Put.{Put}
 use Rattle.kit.proofs.Cases.{on, clash}
 use Rattle.kit.proofs.Ladder.{refused-exactly, decides-such}
 use Rattle.kit.proofs.Maps.{replicate-at}
-use Rattle.kit.proofs.Put.{put-then, put-whole}
-use Rattle.kit.proofs.Stores.{sets-in}
 use Rattle.condition.specs.Slots.{slots}
 use Rattle.condition.specs.declared.slots.Slot.{Slot}
 use Rattle.wire.specs.declared.verdicts.Verdict.the-variants.{Accepted, Refused as refusedBy}
@@ -24,218 +17,26 @@ use Rattle.telegram.specs.Tables.{packets, firstPacket}
 use Rattle.telegram.specs.Telegrams.{packetIn, stepIn, telegramOf, readRows, readRefusal, blank}
 use Rattle.telegram.specs.declared.Telegram.{Telegram}
 use Rattle.telegram.proofs.Rows.{read-refused, read-accepted, read-numbered, read-to-14}
-use Rattle.memory.specs.Memory.{room, slotRoom, marksFrom, lastFrom, stepFrom, setFrom, flagByte, flagsAt, tableBytes, pictureIn, marksIn, setIn, withMarks, withPicture}
-use Rattle.memory.proofs.Slots.{Same, table-same, flags-same, same-out, length-table}
-use Rattle.memory.proofs.Back.{table-length, table-back, flags-back}
+use Rattle.memory.specs.Memory.{room, setFrom, pictureIn, setIn}
+use Rattle.memory.proofs.Slots.{length-table}
 use Rattle.picture.specs.Pictures.{countOf, clashes}
 use Rattle.marks.specs.Marks.{isCarried, marksOf}
-use Rattle.hand.specs.Lent.{handIn, handBytes, begunIn, joinedIn}
+use Rattle.hand.specs.Lent.{handIn, begunIn, joinedIn}
 use Rattle.hand.specs.Sets.{begun, setFor, isHeld, joined, isWhole}
 use Rattle.hand.specs.declared.Hand.{Hand}
-use Rattle.hand.proofs.Lent.{Below, begun-length, begun-below, begun-hand, joined-length, joined-below, joined-hand, hand-length, hand-back}
+use Rattle.hand.proofs.Lent.{Below, begun-length, begun-below, begun-hand, joined-length, joined-below, joined-hand}
 use Rattle.last_step.specs.LastSteps.{isLast, gapFrom}
-use Rattle.last_step.specs.Lent.{lastIn, lastBytes, withLast}
+use Rattle.last_step.specs.Lent.{lastIn}
 use Rattle.last_step.specs.declared.Last.{Last}
-use Rattle.last_step.specs.declared.Last.the-variants.{Never, Step}
-use Rattle.last_step.proofs.Lent.{last-length, last-back}
+use Rattle.last_step.specs.declared.Last.the-variants.{Step}
 use Rattle.listener.specs.Listeners.{carries, holding, takenBy, takenAnswer, heardOf, hearOf}
-use Rattle.listener.specs.Lent.{listenerIn, bytesOf, memoryFor, withIt, shiftedIn, takenIn, memoryAfter, LeftBy, HeardIn, Left, takenLeft, judgedLeft, addedLeft}
+use Rattle.listener.specs.Lent.{listenerIn, memoryFor, withIt, shiftedIn, takenIn, memoryAfter, LeftBy, HeardIn, Left, takenLeft, judgedLeft, addedLeft}
 use Rattle.listener.specs.declared.Answer.{Answer}
 use Rattle.listener.specs.declared.Answer.the-variants.{Refused, Repeat, Held, Taken}
 use Rattle.listener.specs.declared.Heard.{Heard}
 use Rattle.listener.specs.declared.Listener.{Listener}
 use Rattle.listener.proofs.Hearing.{hear-refused, hear-as, heard-last, heard-copy, heard-part, heard-clash, heard-taken}
-
--- ---- what lies below the set decides picture, marks and last step
-
-module _ (a b : List ℕ) (below : Below a b) where
-  part : (x n : ℕ) → x + n ≤ stepFrom → Same n a x b x
-  part x n fits r p =
-      let e : x + r ≡ 0 + (x + r) = omega arith in
-      ap (λ (i : ℕ). getD a i 0) e ∙ (below (x + r) (omega arith) ∙ sym (ap (λ (i : ℕ). getD b i 0) e))
-
-  pub picture-below : pictureIn a ≡ pictureIn b
-  picture-below = table-same a b 0 0 (part 0 (slotRoom * slots) (omega arith))
-
-  pub marks-below : marksIn a ≡ marksIn b
-  marks-below = flags-same a b marksFrom marksFrom slots (part marksFrom slots (omega arith))
-
-  pub last-below : lastIn a ≡ lastIn b
-  unfolding lastIn
-  last-below =
-      λ t. cond (eqb (below lastFrom (omega arith) t) 0) Never (Step (word (below (lastFrom + 1) (omega arith) t) (below (lastFrom + 2) (omega arith) t)))
-
-  -- so only the set is another one
-  pub keeps : listenerIn a ≡ holding (listenerIn b) (handIn a)
-  unfolding listenerIn
-  keeps = λ t. record { picture = picture-below t; marks = marks-below t; last = last-below t; hand = handIn a }
-
-both-below : (a b c : List ℕ) → Below a b → Below b c → Below a c
-both-below a b c p q r s = p r s ∙ q r s
-
--- ---- a set that has become the picture
-
-module _ (memory : List ℕ) (long : length memory ≡ room) where
-  module _ (marks : List Bool) (all : length marks ≡ slots) where
-    own-marks : marksIn (withMarks memory marks) ≡ marks
-    unfolding withMarks
-    own-marks = ap (λ (n : ℕ). flagsAt (withMarks memory marks) marksFrom n) (sym all) ∙ flags-back marks memory marksFrom (omega (arith, all, long))
-
-    own-set : setIn (withMarks memory marks) ≡ setIn memory
-    unfolding withMarks
-    own-set =
-        table-same (withMarks memory marks) memory setFrom setFrom
-        (same-out (map flagByte marks) memory marksFrom (slotRoom * slots) setFrom (inr (omega (arith, length-map marks flagByte, all))))
-
-  marked-long : (marks : List Bool) → length (withMarks memory marks) ≡ room
-  unfolding withMarks
-  marked-long marks = length-sets memory marksFrom (map flagByte marks) ∙ long
-
-  own-picture : pictureIn (withPicture memory) ≡ setIn memory
-  unfolding withPicture
-  own-picture =
-      let many : length (drop setFrom memory) ≡ 140 = omega (arith, length-drop setFrom memory, long) in
-      table-same (withPicture memory) memory 0 setFrom
-      (λ r p. sets-in 0 (drop setFrom memory) memory 0 r (omega (arith, many)) (omega (arith, many, long)) ∙ getD-drop setFrom memory r 0)
-
-  shown-marks : marksIn (withPicture memory) ≡ marksIn memory
-  unfolding withPicture
-  shown-marks =
-      let many : length (drop setFrom memory) ≡ 140 = omega (arith, length-drop setFrom memory, long) in
-      flags-same (withPicture memory) memory marksFrom marksFrom slots (same-out (drop setFrom memory) memory 0 slots marksFrom (inr (omega (arith, many))))
-
-  shown-long : length (withPicture memory) ≡ room
-  unfolding withPicture
-  shown-long = length-sets memory 0 (drop setFrom memory) ∙ long
-
-  module _ (step : ℕ) where
-    abbrev run : List ℕ
-    run = 1 ∷ wordBytes step
-
-    last-picture : pictureIn (withLast memory step) ≡ pictureIn memory
-    unfolding withLast
-    last-picture = table-same (withLast memory step) memory 0 0 (same-out run memory lastFrom (slotRoom * slots) 0 (inl (omega arith)))
-
-    last-marks : marksIn (withLast memory step) ≡ marksIn memory
-    unfolding withLast
-    last-marks = flags-same (withLast memory step) memory marksFrom marksFrom slots (same-out run memory lastFrom slots marksFrom (inl (omega arith)))
-
-    last-long : length (withLast memory step) ≡ room
-    unfolding withLast
-    last-long = length-sets memory lastFrom run ∙ long
-
-    own-last : lastIn (withLast memory step) ≡ Step step
-    unfolding withLast
-    own-last = last-back memory long (Step step)
-
-shifted-means : (memory : List ℕ) (step : ℕ) (marks : List Bool) → length memory ≡ room → length marks ≡ slots
-    → listenerIn (shiftedIn memory step marks) ≡ record { picture = setIn memory; marks = marks; last = Step step; hand = begun 0 }
-unfolding listenerIn shiftedIn
-shifted-means memory step marks long all =
-    let marked : List ℕ = withMarks memory marks in
-    let marked-long′ : length marked ≡ room = marked-long memory long marks in
-    let shown : List ℕ = withPicture marked in
-    let shown-long′ : length shown ≡ room = shown-long marked marked-long′ in
-    let taken : List ℕ = withLast shown step in
-    let taken-long : length taken ≡ room = last-long shown shown-long′ step in
-    let below : Below (begunIn taken 0) taken = begun-below taken 0 in
-    let picture : pictureIn (begunIn taken 0) ≡ setIn memory =
-    picture-below (begunIn taken 0) taken below ∙ (last-picture shown shown-long′ step ∙ (own-picture marked marked-long′ ∙ own-set memory long marks all)) in
-    let own : marksIn (begunIn taken 0) ≡ marks =
-    marks-below (begunIn taken 0) taken below ∙ (last-marks shown shown-long′ step ∙ (shown-marks marked marked-long′ ∙ own-marks memory long marks all)) in
-    let last : lastIn (begunIn taken 0) ≡ Step step = last-below (begunIn taken 0) taken below ∙ own-last shown shown-long′ step in
-    λ t. record { picture = picture t; marks = own t; last = last t; hand = begun-hand taken 0 taken-long t }
-
--- ---- the memory of a listener
-
--- as many slots, marks and packets as there are: of a listener by value its type says so
-pub record Sized (listener : Listener) : Type 0 where
-  pub picture : length (listener .picture) ≡ slots
-  pub marks : length (listener .marks) ≡ slots
-  pub held : length (listener .hand .held) ≡ packets
-  pub set : length (listener .hand .slots) ≡ slots
-
-module _ (listener : Listener) (sized : Sized listener) where
-  abbrev blank-memory : List ℕ
-  blank-memory = replicate room 0
-
-  abbrev with-picture : List ℕ
-  with-picture = sets blank-memory 0 (tableBytes (listener .picture))
-
-  abbrev with-marks : List ℕ
-  with-marks = withMarks with-picture (listener .marks)
-
-  abbrev with-last : List ℕ
-  with-last = sets with-marks lastFrom (lastBytes (listener .last))
-
-  abbrev with-hand : List ℕ
-  with-hand = sets with-last stepFrom (handBytes (listener .hand))
-
-  picture-size : length (tableBytes (listener .picture)) ≡ 140
-  picture-size = table-length (listener .picture)
-
-  marks-size : length (map flagByte (listener .marks)) ≡ 20
-  marks-size = length-map (listener .marks) flagByte ∙ sized .marks
-
-  last-size : length (lastBytes (listener .last)) ≡ 3
-  last-size = last-length (listener .last)
-
-  hand-size : length (handBytes (listener .hand)) ≡ 147
-  hand-size = hand-length (listener .hand) (sized .held)
-
-  long-blank : length blank-memory ≡ room
-  long-blank = length-replicate {A = ℕ} room 0
-
-  long-picture : length with-picture ≡ room
-  long-picture = length-sets blank-memory 0 (tableBytes (listener .picture)) ∙ long-blank
-
-  long-marks : length with-marks ≡ room
-  long-marks = marked-long with-picture long-picture (listener .marks)
-
-  long-last : length with-last ≡ room
-  long-last = length-sets with-marks lastFrom (lastBytes (listener .last)) ∙ long-marks
-
-  -- its parts one after another are its bytes
-  pub built : with-hand ≡ bytesOf listener
-  unfolding withMarks bytesOf
-  built =
-      let bytes : length (bytesOf listener) ≡ room =
-      omega (
-        arith,
-        picture-size,
-        marks-size,
-        last-size,
-        hand-size,
-        length-append (tableBytes (listener .picture)) (map flagByte (listener .marks) ++ (lastBytes (listener .last) ++ handBytes (listener .hand))),
-        length-append (map flagByte (listener .marks)) (lastBytes (listener .last) ++ handBytes (listener .hand)),
-        length-append (lastBytes (listener .last)) (handBytes (listener .hand)),
-      ) in
-      let one : Put blank-memory 0 (tableBytes (listener .picture)) with-picture marksFrom = record { stored = refl; past = omega (arith, picture-size) } in
-      let two : Put with-picture marksFrom (map flagByte (listener .marks)) with-marks lastFrom = record { stored = refl; past = omega (arith, marks-size) } in
-      let three : Put with-marks lastFrom (lastBytes (listener .last)) with-last stepFrom = record { stored = refl; past = omega (arith, last-size) } in
-      let four : Put with-last stepFrom (handBytes (listener .hand)) with-hand (stepFrom + length (handBytes (listener .hand))) = record { stored = refl; past = refl } in
-      put-whole (long-blank ∙ sym bytes) (put-then one (put-then two (put-then three four)))
-
-  parts-back : listenerIn with-hand ≡ listener
-  unfolding listenerIn withMarks
-  parts-back =
-      let below : Below with-hand with-last = same-out (handBytes (listener .hand)) with-last stepFrom stepFrom 0 (inl (omega arith)) in
-      let picture : pictureIn with-hand ≡ listener .picture =
-      picture-below with-hand with-last below
-      ∙ (table-same with-last with-marks 0 0 (same-out (lastBytes (listener .last)) with-marks lastFrom (slotRoom * slots) 0 (inl (omega arith)))
-      ∙ (table-same with-marks with-picture 0 0 (same-out (map flagByte (listener .marks)) with-picture marksFrom (slotRoom * slots) 0 (inl (omega arith)))
-      ∙ table-back (listener .picture) blank-memory 0 (sized .picture) (omega (arith, long-blank)))) in
-      let marks : marksIn with-hand ≡ listener .marks =
-      marks-below with-hand with-last below
-      ∙ (flags-same with-last with-marks marksFrom marksFrom slots (same-out (lastBytes (listener .last)) with-marks lastFrom slots marksFrom (inl (omega arith)))
-      ∙ own-marks with-picture long-picture (listener .marks) (sized .marks)) in
-      let last : lastIn with-hand ≡ listener .last = last-below with-hand with-last below ∙ last-back with-marks long-marks (listener .last) in
-      let hand : handIn with-hand ≡ listener .hand = hand-back (listener .hand) (sized .held) with-last long-last (sized .set) in
-      λ t. record { picture = picture t; marks = marks t; last = last t; hand = hand t }
-
-  -- and the memory that has them means the listener
-  pub means-back : listenerIn (bytesOf listener) ≡ listener
-  means-back = ap listenerIn (sym built) ∙ parts-back
+use Rattle.listener.proofs.Shifted.{picture-below, last-below, keeps, both-below, shifted-means}
 
 -- ---- the set that a telegram of this step number goes into, and the memory that has it
 

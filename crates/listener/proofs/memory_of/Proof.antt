@@ -5,7 +5,7 @@ use lib.Seq.{sets}
 use Rattle.memory.specs.Memory.{lastFrom, stepFrom, withMarks}
 use Rattle.last_step.specs.Lent.{lastBytes}
 use Rattle.hand.specs.Lent.{handBytes}
-use Rattle.listener.proofs.Lent.{Sized, built}
+use Rattle.listener.proofs.Back.{Sized, built}
 use borrow.Author.Needs.{needs}
 use Rattle.listener.proofs.memory_of.Statement.{statement}
 use Rattle.listener.proofs.memory_of.Tie as tie

@@ -4,7 +4,7 @@ use mathlib.Core.Path.{_≡_, ap, sym, _∙_}
 use lib.ListN.{length-map}
 use Rattle.kit.proofs.Put.{poured-as}
 use Rattle.listener.specs.Lent.{listenerIn}
-use Rattle.listener.proofs.Lent.{Sized, means-back}
+use Rattle.listener.proofs.Back.{Sized, means-back}
 use Rattle.lister.specs.Pieces.{padded}
 use Rattle.lister.proofs.Kept.{state}
 use Rattle.lister.proofs.Phases.{next-heard, next-lines}

@@ -10,7 +10,7 @@ use borrow.Author.Needs.{needs}
 use Rattle.kit.specs.Put.{Poured}
 use Rattle.kit.proofs.Put.{poured-as, poured-here, poured-then, poured-length}
 use Rattle.listener.specs.Lent.{listenerIn}
-use Rattle.listener.proofs.Lent.{Sized, means-back}
+use Rattle.listener.proofs.Back.{Sized, means-back}
 use Rattle.lister.specs.Pieces.{takeOf, linesOf}
 use Rattle.lister.specs.declared.Lister.{Lister}
 use Rattle.lister.proofs.Kept.{Kept, state, made-kept, take-none, lines-none}

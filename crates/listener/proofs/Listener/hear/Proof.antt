@@ -4,7 +4,7 @@ use lib.ListN.{length-map}
 use Rattle.telegram.specs.Telegrams.{readOf}
 use Rattle.listener.specs.Listeners.{carries, hearOf}
 use Rattle.listener.specs.Lent.{listenerIn}
-use Rattle.listener.proofs.Lent.{Sized, means-back}
+use Rattle.listener.proofs.Back.{Sized, means-back}
 use borrow.Author.Needs.{needs}
 use Rattle.listener.proofs.Listener.hear.Statement.{statement}
 use Rattle.listener.proofs.Listener.hear.Tie as tie
