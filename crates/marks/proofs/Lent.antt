@@ -1,5 +1,5 @@
 -- The rule of carried entries on the bytes of a listener's memory is the rule on its slots.
-use Prim.Native.Nat.{ℕ, _+_, _<_, _≤_}
+use Prim.Native.Nat.{ℕ, _<_, _≤_}
 use mathlib.Core.Path.{_≡_, refl, sym, ap, ap₂, _∙_}
 use mathlib.Core.Logic.{_⊎_, inl, inr}
 use mathlib.Core.Bool.{Bool, true, false, not, _&&_}
@@ -8,7 +8,7 @@ use lib.Dec.{eqb, leb}
 use lib.ListN.{length, getD, replicate, length-map, length-replicate}
 use lib.Seq.{ext-getD}
 use native.Mathlib.Omega.{arith}
-use borrow.Author.Tests.{eqb-true, eq-eqb, ne-eqb, le-leb, lt-leb}
+use borrow.Author.Tests.{eqb-true, eq-eqb, le-leb, lt-leb}
 use Rattle.kit.specs.Loops.{any}
 use Rattle.kit.proofs.Cases.{on, given, and-both}
 use Rattle.kit.proofs.Each.{length-one-each, one-each-at}
@@ -20,7 +20,7 @@ use Rattle.telegram.specs.Tables.{tableSlot}
 use Rattle.memory.specs.Memory.{setFrom, slotPlace, slotAt, kindFrom, pictureIn, setIn}
 use Rattle.memory.proofs.Slots.{slot-in, length-table, slot-number, slot-occupied, slot-kind}
 use Rattle.marks.specs.Marks.{isSame, isKnown, isCarried, marksOf}
-use Rattle.marks.specs.Lent.{kindAt, hasBoth, isAlike, isThere, allThere}
+use Rattle.marks.specs.Lent.{kindAt, hasBoth, isAlike, isThere, allThere, holds}
 use Rattle.marks.proofs.Carrying.{mark-at, none-carried}
 
 -- the slot whose bytes begin at `at`, occupied or not, is known when a slot of the picture has its number with its type
@@ -49,20 +49,14 @@ module _ (memory : List ℕ) (i : ℕ) where
   abbrev number : ℕ
   number = getD memory (slotPlace setFrom i) 0
 
-  abbrev shape : ℕ
-  shape = getD memory (slotPlace setFrom i + 1) 0
-
-  pub there-empty : shape ≡ 0 → false ≡ isThere memory i
+  pub there-empty : holds memory i ≡ false → false ≡ isThere memory i
   unfolding isThere
-  there-empty e = sym (rw (eq-eqb shape 0 e) refl)
+  there-empty e = sym (rw e refl)
 
-  module _ (occupied : shape ≡ 0 → ⊥) (kind : ℕ) (same : kind ≡ kindAt memory (slotPlace setFrom i)) where
-    pub there-known : (known : Bool) → known ≡ any (hasBoth memory number kind) 0 slots → known ≡ isThere memory i
-    unfolding isThere
-    there-known known e =
-        e
-        ∙ (ap (λ (k : ℕ). any (hasBoth memory number k) 0 slots) same
-        ∙ sym (ap (λ b. b && any (hasBoth memory number (kindAt memory (slotPlace setFrom i))) 0 slots) (ap not (ne-eqb shape 0 occupied))))
+  pub there-known : holds memory i ≡ true → (kind : ℕ) → kind ≡ kindAt memory (slotPlace setFrom i)
+      → (known : Bool) → known ≡ any (hasBoth memory number kind) 0 slots → known ≡ isThere memory i
+  unfolding isThere
+  there-known occupied kind same known e = e ∙ (ap (λ (k : ℕ). any (hasBoth memory number k) 0 slots) same ∙ sym (rw occupied refl))
 
   -- slots that begin alike have one number and one type
   alike-both : isAlike memory i ≡ true → hasBoth memory number (kindAt memory (slotPlace setFrom i)) i ≡ true
@@ -76,7 +70,7 @@ module _ (memory : List ℕ) (i : ℕ) where
       (eq-eqb (kindAt memory (slotPlace 0 i)) (kindAt memory (slotPlace setFrom i)) (sym (ap₂ kindFrom (eqb-true _ _ second) (eqb-true _ _ third))))))
 
   -- so an occupied slot that begins as the picture's does is there
-  pub there-alike : (shape ≡ 0 → ⊥) → i < slots → isAlike memory i ≡ true → true ≡ isThere memory i
+  pub there-alike : holds memory i ≡ true → i < slots → isAlike memory i ≡ true → true ≡ isThere memory i
   there-alike occupied p alike =
       there-known occupied (kindAt memory (slotPlace setFrom i)) refl true
       (sym (any-when (hasBoth memory number (kindAt memory (slotPlace setFrom i))) 0 slots i (omega arith) (omega arith) (alike-both alike)))

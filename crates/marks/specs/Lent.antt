@@ -1,9 +1,11 @@
 -- The rule of carried entries on the bytes of a listener's memory: what the functions of this crate compute on the way to `marksOf`.
-use Prim.Native.Nat.{ℕ, _+_}
-use mathlib.Core.Bool.{Bool, _&&_}
+use Prim.Native.Nat.{ℕ, _+_, _/_, _%_, _<_, _≤_}
+use mathlib.Core.Path.{_≡_}
+use mathlib.Core.Logic.{_⊎_}
+use mathlib.Core.Bool.{Bool, true, false, _&&_}
 use mathlib.Core.List.{List, [], _∷_}
 use lib.Dec.{eqb}
-use lib.ListN.{getD}
+use lib.ListN.{length, getD}
 use Rattle.kit.specs.Each.{each}
 use Rattle.kit.specs.Loops.{any}
 use Rattle.condition.specs.Slots.{slots}
@@ -33,3 +35,32 @@ isThere memory i =
 -- the same of each slot
 unfoldable pub allThere : List ℕ → List Bool
 allThere memory = each (λ i. isThere memory i ∷ []) 0 slots
+
+-- the number of four bytes whose lower three, lowest first, are these
+abbrev pub IsHead : ℕ → ℕ → ℕ → ℕ → Type 0
+IsHead number shape own head = (head % 256 ≡ number) × (head / 256 % 256 ≡ shape) × (head / 0x10000 % 256 ≡ own)
+
+-- slot i of the set is occupied
+abbrev pub holds : List ℕ → ℕ → Bool
+holds memory i = isSet (getD memory (slotPlace setFrom i + 1) 0)
+
+-- the mark of slot j says whether it is there
+abbrev pub IsMarked : List ℕ → List Bool → ℕ → Type 0
+IsMarked memory marks j = getD marks j false ≡ isThere memory j
+
+-- slot j is one of the others, from number k on and before number n
+abbrev pub IsOther : List ℕ → ℕ → ℕ → ℕ → Type 0
+IsOther others k n j = (m : ℕ) × (k ≤ m) × (m < n) × (getD others m 0 ≡ j)
+
+-- each of the first i slots is marked or is one of the others from number k on; and the n others are occupied slots among them
+pub record Sorted (memory : List ℕ) (i k n : ℕ) (others : List ℕ) (marks : List Bool) : Type 0 where
+  pub either : (j : ℕ) → j < i → IsMarked memory marks j ⊎ IsOther others k n j
+  pub other : (m : ℕ) → m < n → (getD others m 0 < i) × (holds memory (getD others m 0) ≡ true)
+  pub few : n ≤ i
+  pub marksLong : length marks ≡ slots
+  pub othersLong : length others ≡ slots
+
+-- the numbers of the first i slots of the picture have their flags set
+pub record Seen (memory : List ℕ) (i : ℕ) (seen : List Bool) : Type 0 where
+  pub flag : (j : ℕ) → j < i → getD seen (getD memory (slotPlace 0 j) 0) false ≡ true
+  pub long : length seen ≡ 256

@@ -1,7 +1,9 @@
--- `is_there`: nothing in the slot, the first bytes of the picture's slot i, or any of its slots decides.
-use mathlib.Core.Path.{sym, _∙_}
+-- `is_there`: whether the number was seen decides, or the slots of the picture.
+use mathlib.Core.Bool.{false}
+use mathlib.Core.Path.{refl, sym, _∙_}
+use Rattle.marks.proofs.Lent.{there-known}
+use Rattle.marks.proofs.Seeing.{unseen}
 use borrow.Author.Needs.{needs}
-use Rattle.marks.proofs.Lent.{there-empty, there-known, there-alike}
 use Rattle.marks.proofs.is_there.Statement.{statement}
 use Rattle.marks.proofs.is_there.Tie as tie
 
@@ -11,23 +13,11 @@ mul-at c = search needs
 add-at : tie.Need-add-at
 add-at c = search needs
 
-add-if1 : tie.Need-add-if1
-add-if1 c = search needs
+element-copy-out-is-seen : tie.Need-element-copy-out-is-seen
+element-copy-out-is-seen c = search needs
 
-element-copy-out-if1 : tie.Need-element-copy-out-if1
-element-copy-out-if1 c = search needs
-
-returns : tie.Need-returns
-returns c = let a = c .before .before .args in there-empty (a .memory .now) (a .i) (c .if1 .taken)
-
-is-alike-requires : tie.Need-is-alike-requires
-is-alike-requires c κs = search needs
-
-returns-2 : tie.Need-returns-2
-returns-2 c =
-    let left = c .before .before in
-    let a = left .before .before .args in
-    there-alike (a .memory .now) (a .i) (left .if1 .left) (search needs) (sym (c .before .is-alike .ensures) ∙ c .if2 .taken)
+is-seen-requires : tie.Need-is-seen-requires
+is-seen-requires c κs = search needs
 
 add-kind-of : tie.Need-add-kind-of
 add-kind-of c = search needs
@@ -50,12 +40,18 @@ element-copy-out-is-known c = search needs
 is-known-requires : tie.Need-is-known-requires
 is-known-requires c κs = search needs
 
-returns-3 : tie.Need-returns-3
-returns-3 c =
+returns : tie.Need-returns
+returns c =
     let kind = c .before .before in
-    let left = kind .before .before .before .before .before in
-    let a = left .before .before .args in
-    there-known (a .memory .now) (a .i) (left .if1 .left) _ (kind .kind-of .ensures) _ (c .is-known .ensures)
+    let start = kind .before .before .before .before .before .before in
+    there-known (start .args .memory .now) (start .args .i) (start .pre .1) _ (kind .kind-of .ensures) _ (c .is-known .ensures)
+
+returns-2 : tie.Need-returns-2
+returns-2 c =
+    let start = c .before .before .before in
+    let memory = start .args .memory .now in
+    let off = sym (c .before .is-seen .ensures) ∙ c .if1 .left in
+    there-known memory (start .args .i) (start .pre .1) _ refl false (sym (unseen memory (start .args .seen .now) _ _ (start .pre .2) off))
 
 pub is-there-spec : {M : Type 1} → statement M
 is-there-spec =
@@ -63,11 +59,8 @@ is-there-spec =
     (tie.spec
     mul-at
     add-at
-    add-if1
-    element-copy-out-if1
-    returns
-    is-alike-requires
-    returns-2
+    element-copy-out-is-seen
+    is-seen-requires
     add-kind-of
     element-copy-out-kind-of
     add-kind-of-2
@@ -75,4 +68,5 @@ is-there-spec =
     kind-of-requires
     element-copy-out-is-known
     is-known-requires
-    returns-3)
+    returns
+    returns-2)
