@@ -17,7 +17,7 @@ use Rattle.marks.proofs.Lent.{there-empty, there-alike, length-there, t
 module _ (memory : List ℕ) where
   pub sorted-none : (others : List ℕ) (marks : List Bool) → length marks ≡ slots → length others ≡ slots → Sorted memory 0 0 0 others marks
   sorted-none others marks a b =
-      record { either = λ j p. absurd (omega arith); other = λ m p. absurd (omega arith); few = omega arith; marksLong = a; othersLong = b }
+      record { either = λ j p. absurd (omega arith); other = λ m p. absurd (omega arith); few = omega arith; marks-long = a; others-long = b }
 
   module _ (marks : List Bool) (at : ℕ) (mark : Bool) (inside : at < length marks) where
     -- a mark that is put right, and the marks that stand beside it
@@ -34,10 +34,10 @@ module _ (memory : List ℕ) where
     Here = ((mark ≡ isThere memory i) × (next ≡ n)) ⊎ ((holds memory i ≡ true) × (next ≡ n + 1))
 
     in-marks : i < length marks
-    in-marks = omega (arith, s .marksLong)
+    in-marks = omega (arith, s .marks-long)
 
     in-others : n < length others
-    in-others = omega (arith, s .othersLong, s .few)
+    in-others = omega (arith, s .others-long, s .few)
 
     not-fewer : Here → n ≤ next
     not-fewer (inl (right, same)) = omega arith
@@ -80,8 +80,8 @@ module _ (memory : List ℕ) where
               either-before here j q (s .either j q));
           other = other-after here;
           few = few-after here;
-          marksLong = length-set marks i mark ∙ s .marksLong;
-          othersLong = length-set others n i ∙ s .othersLong;
+          marks-long = length-set marks i mark ∙ s .marks-long;
+          others-long = length-set others n i ∙ s .others-long;
         }
 
     -- which of the two it is, by its tests
@@ -108,7 +108,7 @@ module _ (memory : List ℕ) where
 
       pub sorted-next : (mark : Bool) → mark ≡ isThere memory at → Sorted memory slots (k + 1) n others (set marks at mark)
       sorted-next mark right =
-          let inside : at < length marks = omega (arith, s .other k p .0, s .marksLong) in
+          let inside : at < length marks = omega (arith, s .other k p .0, s .marks-long) in
           record {
             either = λ j q.
                 on (eqb j at)
@@ -116,8 +116,8 @@ module _ (memory : List ℕ) where
                 (λ other. either-next mark inside j (eqb-false j at other) (s .either j q));
             other = s .other;
             few = s .few;
-            marksLong = length-set marks at mark ∙ s .marksLong;
-            othersLong = s .othersLong;
+            marks-long = length-set marks at mark ∙ s .marks-long;
+            others-long = s .others-long;
           }
 
     marked : n ≤ k → (j : ℕ) → IsMarked memory marks j ⊎ IsOther others k n j → IsMarked memory marks j
@@ -127,7 +127,7 @@ module _ (memory : List ℕ) where
     -- none of the others is left
     pub sorted-all : n ≤ k → marks ≡ allThere memory
     sorted-all past =
-        ext-getD false marks (allThere memory) (s .marksLong ∙ sym (length-there memory))
+        ext-getD false marks (allThere memory) (s .marks-long ∙ sym (length-there memory))
         (λ j p.
-        let q : j < slots = omega (arith, s .marksLong) in
+        let q : j < slots = omega (arith, s .marks-long) in
         marked past j (s .either j q) ∙ sym (there-at memory j q))

@@ -36,7 +36,7 @@ isThere memory i =
 unfoldable pub allThere : List ℕ → List Bool
 allThere memory = each (λ i. isThere memory i ∷ []) 0 slots
 
--- the number of four bytes whose lower three, lowest first, are these
+-- a number of four bytes whose lower three, lowest first, are these
 abbrev pub IsHead : ℕ → ℕ → ℕ → ℕ → Type 0
 IsHead number shape own head = (head % 256 ≡ number) × (head / 256 % 256 ≡ shape) × (head / 0x10000 % 256 ≡ own)
 
@@ -57,8 +57,8 @@ pub record Sorted (memory : List ℕ) (i k n : ℕ) (others : List ℕ) (marks :
   pub either : (j : ℕ) → j < i → IsMarked memory marks j ⊎ IsOther others k n j
   pub other : (m : ℕ) → m < n → (getD others m 0 < i) × (holds memory (getD others m 0) ≡ true)
   pub few : n ≤ i
-  pub marksLong : length marks ≡ slots
-  pub othersLong : length others ≡ slots
+  pub marks-long : length marks ≡ slots
+  pub others-long : length others ≡ slots
 
 -- the numbers of the first i slots of the picture have their flags set
 pub record Seen (memory : List ℕ) (i : ℕ) (seen : List Bool) : Type 0 where

@@ -56,15 +56,15 @@ fn is_known(memory: &[u8; 310], number: u8, kind: u8) -> bool
     false
 }
 
-// The first four bytes of a slot as one number, the first of them lowest, so that they are read at once. What is asked of it is in
-// the lower three: the slot's number, what it holds, and the byte after that.
+// The head of a slot: its first four bytes as one number, the first of them lowest, which the processor reads at once. What is asked of
+// it stands in the lower three: the slot's number, what it holds, and the byte after that.
 fn head_of(number: u8, shape: u8, own: u8, fourth: u8) -> u32
     ensures { λ r. ⌜ IsHead number shape own r ⌝ }
 {
     number as u32 + shape as u32 * 0x100 + own as u32 * 0x10000 + fourth as u32 * 0x1000000
 }
 
-// That of the slot whose bytes begin at `at`.
+// The head of the slot whose bytes begin at `at`.
 fn head_at(memory: &[u8; 310], at: usize) -> u32
     requires { ⌜ at + 4 ≤ 310 ⌝ }
     ensures { λ r. ⌜ IsHead (getD (now (memory .entry)) at 0) (getD (now (memory .entry)) (at + 1) 0) (getD (now (memory .entry)) (at + 2) 0) r ⌝ }
@@ -89,21 +89,24 @@ fn is_occupied(memory: &[u8; 310], i: usize) -> bool
     head_at(memory, SET + SLOT * i) / 256 % 256 != 0
 }
 
-// Whether both are so, and 1 where only the second is: products, since a branch that cannot be foretold costs more than the work it saves.
+// Whether a slot is alike and occupied. It is a product, as the next one is, since a branch that cannot be foretold costs more than the
+// work that it saves.
 fn both(alike: bool, occupied: bool) -> bool
     ensures { λ r. ⌜ r ≡ alike && occupied ⌝ }
 {
     alike as u8 * occupied as u8 != 0
 }
 
+// 1 for a slot that is occupied and not alike, 0 for any other.
 fn second_only(alike: bool, occupied: bool) -> usize
     ensures { λ r. ⌜ (r ≡ cond (not alike && occupied) 1 0) × (r ≤ 1) ⌝ }
 {
     (!alike) as usize * occupied as usize
 }
 
-// Slot i is marked if it is occupied and begins as slot i of the picture does, as most do that are carried. An occupied one that does
-// not is put down as one of the others, which are looked for later: each slot is, but only such a one is counted.
+// Slot i is marked if it is occupied and begins as slot i of the picture does: most entries that are carried stand where they stood
+// before. An occupied one that does not is one of the others, which are looked up later. Each slot is put down as the next of them, and
+// only one that is gets counted.
 fn sort_one(
     memory: &[u8; 310],
     i: usize,
@@ -121,7 +124,7 @@ fn sort_one(
     count + second_only(alike, occupied)
 }
 
-// Every slot is sorted so. The answer is how many others there are.
+// Each slot is sorted so. The answer is how many others there are.
 fn sort_out(memory: &[u8; 310], marks: &mut [bool; 20], others: &mut [usize; 20]) -> usize
     requires { ⌜ (length (now marks) ≡ slots) × (length (now others) ≡ slots) ⌝ }
     ensures { λ r. ⌜ Sorted (now (memory .entry)) slots 0 r (now (others .exit)) (now (marks .exit)) ⌝ }
@@ -142,7 +145,7 @@ fn see(seen: &mut [bool; 256], number: u8)
     seen[number as usize] = true;
 }
 
-// The numbers of the picture's slots are.
+// The number of each slot of the picture is seen, an empty one's too.
 fn see_all(memory: &[u8; 310], seen: &mut [bool; 256])
     requires { ⌜ length (now seen) ≡ 256 ⌝ }
     ensures { λ _. ⌜ Seen (now (memory .entry)) slots (now (seen .exit)) ⌝ }
@@ -161,7 +164,7 @@ fn is_seen(seen: &[bool; 256], number: u8) -> bool
     seen[number as usize]
 }
 
-// Whether the picture has the number of slot i, which is occupied, with its type. Only a number that was seen is looked for.
+// Whether the picture has the number of slot i, which is occupied, with its type. A number that was not seen need not be searched for.
 fn is_there(memory: &[u8; 310], seen: &[bool; 256], i: usize) -> bool
     requires { ⌜ (i < 20) × (holds (now memory) i ≡ true) × Seen (now memory) slots (now seen) ⌝ }
     ensures { λ r. ⌜ r ≡ isThere (now (memory .entry)) i ⌝ }
@@ -174,7 +177,7 @@ fn is_there(memory: &[u8; 310], seen: &[bool; 256], i: usize) -> bool
     false
 }
 
-// Each of the others is marked if it is there.
+// Each of the others is marked if the picture has it.
 fn look_up(memory: &[u8; 310], others: &[usize; 20], count: usize, marks: &mut [bool; 20])
     requires { ⌜ Sorted (now memory) slots 0 count (now others) (now marks) ⌝ }
     ensures { λ _. ⌜ now (marks .exit) ≡ allThere (now (memory .entry)) ⌝ }

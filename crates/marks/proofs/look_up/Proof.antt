@@ -36,7 +36,7 @@ element-write-marks : tie.Need-element-write-marks Inv-loop μ-loop
 element-write-marks c =
     let l = c .before .before .before .before .loop in
     let p : l .k < c .before .before .before .before .before .before .before .args .count = search needs in
-    omega (arith, l .inv .0 .marksLong, l .inv .0 .other (l .k) p .0)
+    omega (arith, l .inv .0 .marks-long, l .inv .0 .other (l .k) p .0)
 
 add-k : tie.Need-add-k Inv-loop μ-loop
 add-k c = search needs
