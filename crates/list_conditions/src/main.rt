@@ -7,9 +7,11 @@ use lister::Lister;
 ghost use mathlib.Core.Path.{_≡_};
 ghost use Prim.Native.Nat.{_≤_};
 ghost use lib.ListN.{length};
-ghost use Rattle.kit.specs.Put.{Poured};
+ghost use Rattle.kit.specs.Put.{Put, Poured};
 ghost use Rattle.lister.specs.Pieces.{takeOf, linesOf, Made};
-ghost use Rattle.listing_room.specs.Rooms.{pieceRoom, linesRoom};
+ghost use Rattle.listing_lines.specs.Lines.{headerLine};
+ghost use Rattle.listing.specs.Listings.{endOf};
+ghost use Rattle.listing_room.specs.Rooms.{pieceRoom, linesRoom, headerRoom, endRoom};
 
 // How many bytes a piece has: four hundred telegrams.
 const PIECE: usize = 10400;
@@ -32,9 +34,18 @@ fn main() {
     }
 }
 
+// Puts the header, all of it: the buffer has the size for which that is proved (listing_room/specs/Rooms.antt).
+fn put_header(out: &mut [u8]) -> usize
+    requires { ⌜ length (now out) ≡ headerRoom ⌝ }
+    ensures { λ r. ⌜ Put (now (out .entry)) 0 headerLine (now (out .exit)) r ⌝ }
+{
+    listing_lines::put_header(out, 0)
+}
+
+// Writes the header.
 fn show_header() {
     let mut out = [0u8; 16];
-    let n = listing_lines::put_header(&mut out, 0);
+    let n = put_header(&mut out);
     io::write_all(STDOUT_FILENO, &out[..n]);
 }
 
@@ -58,8 +69,19 @@ fn show_piece(lister: Lister, piece: &[u8], out: &mut [u8]) -> Lister
     next
 }
 
-fn show_end(lister: Lister) {
+// Puts the line of a short tail and the last line, all of both: the buffer has the size for which that is proved.
+fn put_end(lister: Lister, out: &mut [u8]) -> usize
+    requires { ⌜ Made lister × (length (now out) ≡ endRoom) ⌝ }
+    ensures { λ r. ⌜ Put (now (out .entry)) 0 (endOf lister) (now (out .exit)) r ⌝ }
+{
+    listing::finish(lister, out, 0)
+}
+
+// Writes them.
+fn show_end(lister: Lister)
+    requires { ⌜ Made lister ⌝ }
+{
     let mut out = [0u8; 64];
-    let n = listing::finish(lister, &mut out, 0);
+    let n = put_end(lister, &mut out);
     io::write_all(STDOUT_FILENO, &out[..n]);
 }

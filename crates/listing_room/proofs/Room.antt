@@ -1,5 +1,6 @@
--- All that is printed for a piece has room in a buffer of 262,080 bytes, the header in one of 16 and the end in one of 64. These are the sizes
--- in the source of the program `list_conditions`; its contracts do not cite these laws, so that whoever alters a size there looks here.
+-- All that is printed for a piece has room in a buffer of 262,080 bytes, the header in one of 16 and the end in one of 64. The contracts of
+-- the program `list_conditions` ask for these sizes by their names in specs/Rooms.antt, and what puts the header and what puts the end promise by
+-- these laws that all of it is put.
 --
 -- Each telegram prints at most 639 bytes. A piece makes at most one telegram whole for every 26 of its bytes, and one more with the bytes
 -- that were kept; a piece of 10,400 bytes makes at most four hundred whole, whose lines are at most 255,600 bytes. That is so because every slot
@@ -9,12 +10,13 @@ use mathlib.Core.Path.{_≡_, refl, sym, ap, _∙_, subst}
 use mathlib.Core.List.{List, [], _∷_, _++_}
 use lib.Dec.{eqb}
 use lib.ListN.{length, take, drop, length-append}
+use lib.Seq.{length-take-le}
 use native.Mathlib.Omega.{arith}
 use Rattle.kit.specs.Bytes.{Bytes}
 use Rattle.kit.specs.Put.{Put, Poured}
 use Rattle.kit.proofs.Bytes.{take-bytes, drop-bytes, append-bytes}
 use Rattle.kit.proofs.Cases.{on, given}
-use Rattle.kit.proofs.Put.{poured-put}
+use Rattle.kit.proofs.Put.{put-length, poured-put}
 use Rattle.condition.specs.Slots.{emptySlot}
 use Rattle.telegram.specs.Telegrams.{readOf}
 use Rattle.telegram.proofs.Valid.{never-invalid}
@@ -34,6 +36,10 @@ use Rattle.listing.proofs.Whole.{in-one}
 use Rattle.lister.proofs.Recording.{recording-lines}
 use Rattle.lister.specs.declared.Lister.{Lister}
 use Rattle.lister.proofs.Kept.{Kept, begun-kept, take-kept, made-kept, joined-kept}
+
+-- bytes that have room in a buffer were put there: the place past them counts bytes of the buffer
+pub put-counts : {l m : List ℕ} {j : ℕ} {a : List ℕ} → length a ≤ length l → Put l 0 a m j → j ≡ length (take j m)
+put-counts {l} {m} {j} room put = sym (length-take-le j m (omega (arith, room, put .past, put-length put)))
 
 -- ---- telegrams
 

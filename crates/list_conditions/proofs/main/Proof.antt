@@ -45,7 +45,7 @@ show-piece-requires : tie.Need-show-piece-requires Inv-loop μ-loop
 show-piece-requires c κs = search needs
 
 show-end-requires : tie.Need-show-end-requires Inv-loop μ-loop
-show-end-requires c κs = search needs
+show-end-requires c κs = subst⁻¹ Made (c .before .before .show-piece .ensures) (taken (c .before .before .before .before .before .before .before .before .before .loop .inv .0) _)
 
 returns : tie.Need-returns Inv-loop μ-loop
 returns c = search needs

@@ -1,20 +1,21 @@
--- `show_end`: the place past the lines counts bytes of the buffer.
-use Rattle.kit.proofs.Put.{poured-counts}
+-- `show_end`: the end has room, so that the place past it counts bytes of the buffer.
+use native.Mathlib.Omega.{arith}
+use Rattle.listing_room.proofs.Room.{put-counts, end-room}
 use borrow.Author.Needs.{needs}
 use Rattle.list_conditions.proofs.show_end.Statement.{statement}
 use Rattle.list_conditions.proofs.show_end.Tie as tie
 
-slice-aggregate-finish : tie.Need-slice-aggregate-finish
-slice-aggregate-finish c = search needs
+slice-aggregate-put-end : tie.Need-slice-aggregate-put-end
+slice-aggregate-put-end c = search needs
 
-finish-requires : tie.Need-finish-requires
-finish-requires c κs = search needs
+put-end-requires : tie.Need-put-end-requires
+put-end-requires c κs = search needs
 
 array-share-prefix-out : tie.Need-array-share-prefix-out
-array-share-prefix-out c = search needs
+array-share-prefix-out c = omega (arith, end-room (c .before .before .before .pre), c .before .put-end .ensures .past)
 
 slice-aggregate-write-all : tie.Need-slice-aggregate-write-all
-slice-aggregate-write-all c = poured-counts (c .before .before .finish .ensures)
+slice-aggregate-write-all c = put-counts (end-room (c .before .before .before .before .pre)) (c .before .before .put-end .ensures)
 
 write-all-requires : tie.Need-write-all-requires
 write-all-requires c κs = search needs
@@ -26,8 +27,8 @@ pub show-end-spec : {M : Type 1} → statement M
 show-end-spec =
     tie.close
     (tie.spec
-    slice-aggregate-finish
-    finish-requires
+    slice-aggregate-put-end
+    put-end-requires
     array-share-prefix-out
     slice-aggregate-write-all
     write-all-requires

@@ -1,5 +1,6 @@
--- `show_header`: the place past the line counts bytes of the buffer.
-use Rattle.kit.proofs.Put.{poured-counts}
+-- `show_header`: the header has room, so that the place past it counts bytes of the buffer.
+use native.Mathlib.Omega.{arith}
+use Rattle.listing_room.proofs.Room.{put-counts, header-room}
 use borrow.Author.Needs.{needs}
 use Rattle.list_conditions.proofs.show_header.Statement.{statement}
 use Rattle.list_conditions.proofs.show_header.Tie as tie
@@ -11,10 +12,10 @@ put-header-requires : tie.Need-put-header-requires
 put-header-requires c κs = search needs
 
 array-share-prefix-out : tie.Need-array-share-prefix-out
-array-share-prefix-out c = search needs
+array-share-prefix-out c = omega (arith, header-room, c .before .put-header .ensures .past)
 
 slice-aggregate-write-all : tie.Need-slice-aggregate-write-all
-slice-aggregate-write-all c = poured-counts (c .before .before .put-header .ensures)
+slice-aggregate-write-all c = put-counts header-room (c .before .before .put-header .ensures)
 
 write-all-requires : tie.Need-write-all-requires
 write-all-requires c κs = search needs
