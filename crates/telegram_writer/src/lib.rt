@@ -7,6 +7,8 @@ use telegram::Telegram;
 use wire::STEPS;
 use wire::Verdict;
 ghost use mathlib.Core.Path.{_≡_};
+ghost use mathlib.Core.Bool.{not, _&&_};
+ghost use lib.Dec.{leb};
 ghost use mathlib.Core.List.{[], _∷_};
 ghost use Prim.Native.Nat.{_+_, _<_, _≤_};
 ghost use lib.ListN.{length};
@@ -58,14 +60,25 @@ fn put_telegram(buffer: &mut [u8], telegram: Telegram)
     }
 }
 
+// Whether a number is that of no packet.
+fn is_other(packet: u8) -> bool
+    ensures { λ r. ⌜ r ≡ not (leb 3 packet && leb packet 7) ⌝ }
+{
+    if packet < FIRST_PACKET {
+        return true;
+    }
+    if LAST_PACKET < packet {
+        return true;
+    }
+    false
+}
+
 // The refusal of a packet number and a buffer's length, or 0.
 fn refusal_of(packet: u8, length: usize) -> u8
     ensures { λ r. ⌜ r ≡ writeRefusal packet length ⌝ }
 {
-    if packet < FIRST_PACKET {
-        return 9;
-    }
-    if LAST_PACKET < packet {
+    let other = is_other(packet);
+    if other {
         return 9;
     }
     if length != LENGTH {
