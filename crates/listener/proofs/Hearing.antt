@@ -15,15 +15,15 @@ use Rattle.picture.specs.Pictures.{clashes}
 use Rattle.marks.specs.Marks.{marksOf}
 use Rattle.hand.specs.Sets.{begun, setFor, isHeld, joined, isWhole}
 use Rattle.last_step.specs.LastSteps.{gapFrom, isLast}
-use Rattle.listener.specs.Listeners.{freshListener, markAt, holding, takenBy, takenAnswer, heardOf, afterReading, hearOf}
-use Rattle.listener.specs.declared.Answer.the-variants.{Refused as refused, Repeat, Held}
+use Rattle.listener.specs.Answers.{refusedAs, asRepeat, asHeld}
+use Rattle.listener.specs.Listeners.{freshListener, markAt, holding, takenBy, toldOfTable, heardOf, afterReading, hearOf}
 use Rattle.last_step.specs.declared.Last.the-variants.{Never, Step}
 use Rattle.listener.specs.declared.Listener.{Listener}
 use Rattle.hand.specs.declared.Hand.{Hand}
 
 module _ (limit : ℕ) (listener : Listener) where
   -- R-20, L-11: what the reader refuses is refused under its number and changes nothing
-  pub hear-refused : (reading : Reading) (number : ℕ) → reading .verdict ≡ Refused number → hearOf limit listener reading ≡ record { answer = refused number; listener = listener }
+  pub hear-refused : (reading : Reading) (number : ℕ) → reading .verdict ≡ Refused number → hearOf limit listener reading ≡ record { told = refusedAs number; listener = listener }
   unfolding hearOf
   hear-refused reading number e = ap (λ v. afterReading v limit listener (reading .telegram)) e
 
@@ -40,31 +40,31 @@ module _ (limit : ℕ) (listener : Listener) where
     with-it = joined set t
 
     -- L-01
-    pub heard-last : isLast (listener .last) (t .step) ≡ true → heardOf limit listener t ≡ record { answer = Repeat; listener = listener }
+    pub heard-last : isLast (listener .last) (t .step) ≡ true → heardOf limit listener t ≡ record { told = asRepeat; listener = listener }
     unfolding heardOf
     heard-last a = ladder-decides _ _ _ (inl (a, refl))
 
     module _ (a : isLast (listener .last) (t .step) ≡ false) where
       -- L-02
-      pub heard-copy : isHeld set (t .packet) ≡ true → heardOf limit listener t ≡ record { answer = Repeat; listener = listener }
+      pub heard-copy : isHeld set (t .packet) ≡ true → heardOf limit listener t ≡ record { told = asRepeat; listener = listener }
       unfolding heardOf
       heard-copy b = ladder-decides _ _ _ (inr (a, inl (b, refl)))
 
       module _ (b : isHeld set (t .packet) ≡ false) where
         -- L-03
-        pub heard-part : isWhole with-it ≡ false → heardOf limit listener t ≡ record { answer = Held; listener = holding listener with-it }
+        pub heard-part : isWhole with-it ≡ false → heardOf limit listener t ≡ record { told = asHeld; listener = holding listener with-it }
         unfolding heardOf
         heard-part c = ladder-decides _ _ _ (inr (a, inr (b, inl (ap not c, refl))))
 
         -- L-09, L-10
         pub heard-clash : isWhole with-it ≡ true → clashes (with-it .slots) ≡ true
-            → heardOf limit listener t ≡ record { answer = refused 15; listener = holding listener (begun 0) }
+            → heardOf limit listener t ≡ record { told = refusedAs 15; listener = holding listener (begun 0) }
         unfolding heardOf
         heard-clash c d = ladder-decides _ _ _ (inr (a, inr (b, inr (ap not c, inl (d, refl)))))
 
         -- L-04
         pub heard-taken : isWhole with-it ≡ true → clashes (with-it .slots) ≡ false
-            → heardOf limit listener t ≡ record { answer = takenAnswer listener with-it; listener = takenBy limit listener with-it }
+            → heardOf limit listener t ≡ record { told = toldOfTable listener with-it; listener = takenBy limit listener with-it }
         unfolding heardOf
         heard-taken c d = ladder-silent _ _ (a, (b, (ap not c, (d, tt))))
 

@@ -29,12 +29,13 @@ use Rattle.last_step.specs.LastSteps.{isLast, gapFrom}
 use Rattle.last_step.specs.Lent.{lastIn}
 use Rattle.last_step.specs.declared.Last.{Last}
 use Rattle.last_step.specs.declared.Last.the-variants.{Step}
-use Rattle.listener.specs.Listeners.{carries, holding, takenBy, takenAnswer, heardOf, hearOf}
+use Rattle.listener.specs.Answers.{Told, Hearing, refusedAs, asRepeat, asHeld, takenAs, toldOf}
+use Rattle.listener.specs.Listeners.{carries, holding, takenBy, toldOfTable, heardOf, hearOf}
 use Rattle.listener.specs.Lent.{listenerIn, memoryFor, withIt, shiftedIn, takenIn, memoryAfter, LeftBy, HeardIn, Left, takenLeft, judgedLeft, addedLeft}
 use Rattle.listener.specs.declared.Answer.{Answer}
-use Rattle.listener.specs.declared.Answer.the-variants.{Refused, Repeat, Held, Taken}
-use Rattle.listener.specs.declared.Heard.{Heard}
+use Rattle.listener.specs.declared.Answer.the-variants.{Refused}
 use Rattle.listener.specs.declared.Listener.{Listener}
+use Rattle.listener.proofs.Answers.{told-apart}
 use Rattle.listener.proofs.Hearing.{hear-refused, hear-as, heard-last, heard-copy, heard-part, heard-clash, heard-taken}
 use Rattle.listener.proofs.Shifted.{picture-below, last-below, keeps, both-below, shifted-means}
 
@@ -71,8 +72,8 @@ marks-length limit gap before table n = length-map table (isCarried limit gap be
 
 module _ (memory telegram : List ℕ) (whole : length telegram ≡ 26) (packet : packetIn telegram ≤ 7) where
   -- what a telegram that the reader accepts leaves
-  abbrev pub Listened : Answer → List ℕ → Type 0
-  Listened answer after = LeftBy carries (heardOf carries (listenerIn memory) (telegramOf telegram)) memory telegram answer after
+  abbrev pub Listened : Told → List ℕ → Type 0
+  Listened told after = LeftBy carries (heardOf carries (listenerIn memory) (telegramOf telegram)) memory telegram told after
 
   abbrev before : Listener
   before = listenerIn memory
@@ -81,7 +82,7 @@ module _ (memory telegram : List ℕ) (whole : length telegram ≡ 26) (packet :
   t = telegramOf telegram
 
   -- of the step last taken
-  pub left-last : isLast (lastIn memory) (stepIn telegram) ≡ true → Listened Repeat memory
+  pub left-last : isLast (lastIn memory) (stepIn telegram) ≡ true → Listened asRepeat memory
   unfolding listenerIn telegramOf
   left-last last = record { meant = sym (heard-last carries before t last); bytes = refl }
 
@@ -120,36 +121,36 @@ module _ (memory telegram : List ℕ) (whole : length telegram ≡ 26) (packet :
     unfolding handIn
     is-clash b e = ap (λ h. clashes (h .slots)) (sym joins) ∙ e
 
-    left-part : isWhole (handIn after) ≡ false → Listened Held after
+    left-part : isWhole (handIn after) ≡ false → Listened asHeld after
     left-part part =
         record {
           meant =
-              ap (λ l. record { answer = Held; listener = l }) (keeps after memory after-below ∙ ap (holding before) joins)
+              ap (λ l. record { told = asHeld; listener = l }) (keeps after memory after-below ∙ ap (holding before) joins)
               ∙ sym (heard-part carries before t not-last not-held (is-whole false part));
           bytes = ap (λ m. joinedIn m telegram) for;
         }
 
-    left-clash : isWhole (handIn after) ≡ true → clashes (setIn after) ≡ true → Listened (Refused 15) (begunIn after 0)
+    left-clash : isWhole (handIn after) ≡ true → clashes (setIn after) ≡ true → Listened (refusedAs 15) (begunIn after 0)
     left-clash five clash =
         record {
           meant =
-              ap (λ l. record { answer = Refused 15; listener = l })
+              ap (λ l. record { told = refusedAs 15; listener = l })
               (keeps (begunIn after 0) memory (both-below (begunIn after 0) after memory (begun-below after 0) after-below) ∙ ap (holding before) (begun-hand after 0 after-long))
               ∙ sym (heard-clash carries before t not-last not-held (is-whole true five) (is-clash true clash));
           bytes = ap (λ m. begunIn (joinedIn m telegram) 0) for;
         }
 
     -- the answer and the listener, with the set as the memory has it
-    taken-means : _≡_ {A = Heard} (record { answer = takenLeft carries after .answer; listener = listenerIn (takenIn carries after) })
-        (record { answer = takenAnswer before (handIn after); listener = takenBy carries before (handIn after) })
+    taken-means : _≡_ {A = Hearing} (record { told = takenLeft carries after .told; listener = listenerIn (takenIn carries after) })
+        (record { told = toldOfTable before (handIn after); listener = takenBy carries before (handIn after) })
     unfolding takenLeft takenIn takenBy handIn listenerIn
     taken-means =
         let gap : ℕ = gapFrom (lastIn after) (handIn after .step) in
         let marks : List Bool = marksOf carries gap (pictureIn after) (setIn after) in
         let all : length marks ≡ slots = marks-length carries gap (pictureIn after) (setIn after) (length-table after setFrom) in
-        ap (λ l. record { answer = Taken (handIn after .step) (countOf (setIn after)) gap; listener = l }) (shifted-means after (handIn after .step) marks after-long all)
+        ap (λ l. record { told = takenAs (handIn after .step) (countOf (setIn after)) gap; listener = l }) (shifted-means after (handIn after .step) marks after-long all)
         ∙ (λ i. record {
-          answer = Taken (handIn after .step) (countOf (setIn after)) (gapFrom (last-below after memory after-below i) (handIn after .step));
+          told = takenAs (handIn after .step) (countOf (setIn after)) (gapFrom (last-below after memory after-below i) (handIn after .step));
           listener = record {
             picture = setIn after;
             marks = marksOf carries (gapFrom (last-below after memory after-below i) (handIn after .step)) (picture-below after memory after-below i) (setIn after);
@@ -158,33 +159,33 @@ module _ (memory telegram : List ℕ) (whole : length telegram ≡ 26) (packet :
           };
         })
 
-    left-taken : isWhole (handIn after) ≡ true → clashes (setIn after) ≡ false → Listened (takenLeft carries after .answer) (takenLeft carries after .memory)
+    left-taken : isWhole (handIn after) ≡ true → clashes (setIn after) ≡ false → Listened (takenLeft carries after .told) (takenLeft carries after .memory)
     unfolding takenLeft
     left-taken five clash =
         record {
           meant =
               taken-means
-              ∙ (ap (λ s. record { answer = takenAnswer before s; listener = takenBy carries before s }) joins
+              ∙ (ap (λ s. record { told = toldOfTable before s; listener = takenBy carries before s }) joins
               ∙ sym (heard-taken carries before t not-last not-held (is-whole true five) (is-clash false clash)));
           bytes = ap (λ m. takenIn carries (joinedIn m telegram)) for;
         }
 
-    pub left-added : (left : Left) → left ≡ addedLeft carries base telegram → Listened (left .answer) (left .memory)
+    pub left-added : (left : Left) → left ≡ addedLeft carries base telegram → Listened (left .told) (left .memory)
     unfolding addedLeft judgedLeft
     left-added left e =
         on (isWhole (handIn after))
         (λ five.
         on (clashes (setIn after))
-        (λ clash. subst (λ x. Listened (x .answer) (x .memory)) (sym (e ∙ rw (five, clash) refl)) (left-clash five clash))
-        (λ clash. subst (λ x. Listened (x .answer) (x .memory)) (sym (e ∙ rw (five, clash) refl)) (left-taken five clash)))
-        (λ part. subst (λ x. Listened (x .answer) (x .memory)) (sym (e ∙ rw part refl)) (left-part part))
+        (λ clash. subst (λ x. Listened (x .told) (x .memory)) (sym (e ∙ rw (five, clash) refl)) (left-clash five clash))
+        (λ clash. subst (λ x. Listened (x .told) (x .memory)) (sym (e ∙ rw (five, clash) refl)) (left-taken five clash)))
+        (λ part. subst (λ x. Listened (x .told) (x .memory)) (sym (e ∙ rw part refl)) (left-part part))
 
   -- ---- the ways of a telegram that the reader accepts
 
   module _ (long : length memory ≡ room) (later : isLast (lastIn memory) (stepIn telegram) ≡ false) where
     module _ (same : eqb (handIn memory .step) (stepIn telegram) ≡ true) where
       -- a second copy
-      pub left-copy : isHeld (handIn memory) (packetIn telegram) ≡ true → Listened Repeat memory
+      pub left-copy : isHeld (handIn memory) (packetIn telegram) ≡ true → Listened asRepeat memory
       unfolding listenerIn telegramOf
       left-copy held =
           record {
@@ -193,13 +194,13 @@ module _ (memory telegram : List ℕ) (whole : length telegram ≡ 26) (packet :
           }
 
       -- one more of the set in hand
-      pub left-more : isHeld (handIn memory) (packetIn telegram) ≡ false → (left : Left) → left ≡ addedLeft carries memory telegram → Listened (left .answer) (left .memory)
+      pub left-more : isHeld (handIn memory) (packetIn telegram) ≡ false → (left : Left) → left ≡ addedLeft carries memory telegram → Listened (left .told) (left .memory)
       left-more free left e =
           left-added memory long (same-memory memory (stepIn telegram) same) (λ r p. refl) (same-set memory (stepIn telegram) same) later free left e
 
     -- the first of a set that begins
     module _ (other : eqb (handIn memory .step) (stepIn telegram) ≡ false) where
-      pub left-first : (left : Left) → left ≡ addedLeft carries (begunIn memory (stepIn telegram)) telegram → Listened (left .answer) (left .memory)
+      pub left-first : (left : Left) → left ≡ addedLeft carries (begunIn memory (stepIn telegram)) telegram → Listened (left .told) (left .memory)
       left-first left e =
           let own : handIn (begunIn memory (stepIn telegram)) ≡ setFor (handIn memory) (stepIn telegram) =
           begun-hand memory (stepIn telegram) long ∙ new-set memory (stepIn telegram) other in
@@ -208,16 +209,16 @@ module _ (memory telegram : List ℕ) (whole : length telegram ≡ 26) (packet :
 
     -- whichever set it goes into: a second copy, or one more
     module _ (ready : List ℕ) (e : ready ≡ memoryFor memory (stepIn telegram)) where
-      pub left-found : isHeld (setFor (handIn memory) (stepIn telegram)) (packetIn telegram) ≡ true → Listened Repeat ready
+      pub left-found : isHeld (setFor (handIn memory) (stepIn telegram)) (packetIn telegram) ≡ true → Listened asRepeat ready
       left-found held =
           on (eqb (handIn memory .step) (stepIn telegram))
           (λ same.
-          subst (Listened Repeat) (same-memory memory (stepIn telegram) same ∙ sym e)
+          subst (Listened asRepeat) (same-memory memory (stepIn telegram) same ∙ sym e)
           (left-copy same (ap (λ h. isHeld h (packetIn telegram)) (same-set memory (stepIn telegram) same) ∙ held)))
           (λ other. absurd (clash held (none-held memory (stepIn telegram) other (packetIn telegram))))
 
       pub left-joined : isHeld (setFor (handIn memory) (stepIn telegram)) (packetIn telegram) ≡ false → (left : Left) → left ≡ addedLeft carries ready telegram
-          → Listened (left .answer) (left .memory)
+          → Listened (left .told) (left .memory)
       left-joined free left added =
           on (eqb (handIn memory .step) (stepIn telegram))
           (λ same.
@@ -230,7 +231,7 @@ module _ (memory telegram : List ℕ) (whole : length telegram ≡ 26) (packet :
 module _ (memory : List ℕ) where
   pub taken-by : (after : List ℕ) (step count gap : ℕ) (last : Last) (marks : List Bool) → step ≡ handIn memory .step → last ≡ lastIn memory → gap ≡ gapFrom last step
       → count ≡ countOf (setIn memory) → marks ≡ marksOf carries gap (pictureIn memory) (setIn memory) → after ≡ shiftedIn memory step marks
-      → _≡_ {A = Left} (record { answer = Taken step count gap; memory = after }) (takenLeft carries memory)
+      → _≡_ {A = Left} (record { told = takenAs step count gap; memory = after }) (takenLeft carries memory)
   unfolding takenLeft takenIn
   taken-by after step count gap last marks s l g n m a =
       let gap′ : gap ≡ gapFrom (lastIn memory) (handIn memory .step) = g ∙ ap₂ gapFrom l s in
@@ -238,11 +239,11 @@ module _ (memory : List ℕ) where
       m ∙ ap (λ k. marksOf carries k (pictureIn memory) (setIn memory)) gap′ in
       let bytes : after ≡ shiftedIn memory (handIn memory .step) (marksOf carries (gapFrom (lastIn memory) (handIn memory .step)) (pictureIn memory) (setIn memory)) =
       a ∙ ap₂ (shiftedIn memory) s own in
-      λ i. record { answer = Taken (s i) (n i) (gap′ i); memory = bytes i }
+      λ i. record { told = takenAs (s i) (n i) (gap′ i); memory = bytes i }
 
-  pub judged-clash : (after : List ℕ) → clashes (setIn memory) ≡ true → after ≡ begunIn memory 0 → _≡_ {A = Left} (record { answer = Refused 15; memory = after }) (judgedLeft carries memory)
+  pub judged-clash : (after : List ℕ) → clashes (setIn memory) ≡ true → after ≡ begunIn memory 0 → _≡_ {A = Left} (record { told = refusedAs 15; memory = after }) (judgedLeft carries memory)
   unfolding judgedLeft
-  judged-clash after clash e = rw clash (ap (λ m. record { answer = Refused 15; memory = m }) e)
+  judged-clash after clash e = rw clash (ap (λ m. record { told = refusedAs 15; memory = m }) e)
 
   pub judged-taken : (left : Left) → clashes (setIn memory) ≡ false → left ≡ takenLeft carries memory → left ≡ judgedLeft carries memory
   unfolding judgedLeft
@@ -254,16 +255,16 @@ module _ (memory : List ℕ) where
     added-whole left five judged =
         let whole : isWhole (handIn (joinedIn memory telegram)) ≡ true = ap (λ m. isWhole (handIn m)) (sym e) ∙ five in rw whole (judged ∙ ap (judgedLeft carries) e)
 
-    pub added-part : isWhole (handIn after) ≡ false → _≡_ {A = Left} (record { answer = Held; memory = after }) (addedLeft carries memory telegram)
+    pub added-part : isWhole (handIn after) ≡ false → _≡_ {A = Left} (record { told = asHeld; memory = after }) (addedLeft carries memory telegram)
     unfolding addedLeft
     added-part part =
-        let whole : isWhole (handIn (joinedIn memory telegram)) ≡ false = ap (λ m. isWhole (handIn m)) (sym e) ∙ part in rw whole (ap (λ m. record { answer = Held; memory = m }) e)
+        let whole : isWhole (handIn (joinedIn memory telegram)) ≡ false = ap (λ m. isWhole (handIn m)) (sym e) ∙ part in rw whole (ap (λ m. record { told = asHeld; memory = m }) e)
 
 -- ---- what the reader says
 
 module _ (memory telegram : List ℕ) where
   pub left-accepted : (answer : Answer) (after : List ℕ) → readRefusal telegram ≡ 0
-      → LeftBy carries (heardOf carries (listenerIn memory) (telegramOf telegram)) memory telegram answer after → HeardIn carries memory telegram answer after
+      → LeftBy carries (heardOf carries (listenerIn memory) (telegramOf telegram)) memory telegram (toldOf answer) after → HeardIn carries memory telegram answer after
   left-accepted answer after e left =
       record {
         meant =
@@ -293,5 +294,5 @@ module _ (memory telegram : List ℕ) where
 module _ {memory telegram after₁ after₂ : List ℕ} {answer₁ answer₂ : Answer} where
   pub heard-once : HeardIn carries memory telegram answer₁ after₁ → HeardIn carries memory telegram answer₂ after₂ → (answer₁ ≡ answer₂) × (after₁ ≡ after₂)
   heard-once p q =
-      let same : answer₁ ≡ answer₂ = ap (λ h. h .answer) (p .meant ∙ sym (q .meant)) in
-      (same, p .bytes ∙ (ap (λ a. memoryAfter carries a memory telegram) same ∙ sym (q .bytes)))
+      let same : toldOf answer₁ ≡ toldOf answer₂ = ap (λ (h : Hearing). h .told) (p .meant ∙ sym (q .meant)) in
+      (told-apart answer₁ answer₂ same, p .bytes ∙ (ap (λ told. memoryAfter carries told memory telegram) same ∙ sym (q .bytes)))

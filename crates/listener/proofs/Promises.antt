@@ -15,20 +15,12 @@ use Rattle.telegram.proofs.Rows.{read-numbered, read-to-14}
 use Rattle.picture.specs.Pictures.{clashes}
 use Rattle.hand.specs.Sets.{begun, setFor, isHeld, joined, isWhole}
 use Rattle.last_step.specs.LastSteps.{isLast}
-use Rattle.listener.specs.Listeners.{holding, takenAnswer, takenBy, heardOf, hearOf, clashRow, hearRows, numberOf}
-use Rattle.listener.specs.declared.Answer.{Answer}
-use Rattle.listener.specs.declared.Answer.the-variants.{Refused as refused, Repeat, Held, Taken}
-use Rattle.listener.specs.declared.Heard.{Heard}
+use Rattle.listener.specs.Answers.{Told, Hearing, refusedAs, asRepeat, asHeld}
+use Rattle.listener.specs.Listeners.{holding, toldOfTable, takenBy, heardOf, hearOf, clashRow, hearRows}
 use Rattle.listener.specs.declared.Listener.{Listener}
 use Rattle.hand.specs.declared.Hand.{Hand}
+use Rattle.listener.proofs.Answers.{repeat-or-refused, held-or-refused, taken-or-refused}
 use Rattle.listener.proofs.Hearing.{hear-refused, hear-as, heard-last, heard-copy, heard-part, heard-clash, heard-taken}
-
--- an answer with a number above 0 is the refusal with that number
-refused-number : (answer : Answer) (number : ℕ) → 1 ≤ number → numberOf answer ≡ number → answer ≡ refused number
-refused-number (refused n) number p e = ap refused e
-refused-number Repeat number p e = absurd (omega arith)
-refused-number Held number p e = absurd (omega arith)
-refused-number (Taken step count gap) number p e = absurd (omega arith)
 
 module _ (limit : ℕ) (listener : Listener) where
   module _ (t : Telegram) where
@@ -39,8 +31,8 @@ module _ (limit : ℕ) (listener : Listener) where
     with-it = joined set t
 
     -- every telegram that the reader accepts goes one of four ways, and is refused in one of them
-    pub ways : (P : Heard → ℕ → Type 0) → P (record { answer = Repeat; listener = listener }) 0 → P (record { answer = Held; listener = holding listener with-it }) 0
-        → P (record { answer = refused 15; listener = holding listener (begun 0) }) 15 → P (record { answer = takenAnswer listener with-it; listener = takenBy limit listener with-it }) 0
+    pub ways : (P : Hearing → ℕ → Type 0) → P (record { told = asRepeat; listener = listener }) 0 → P (record { told = asHeld; listener = holding listener with-it }) 0
+        → P (record { told = refusedAs 15; listener = holding listener (begun 0) }) 15 → P (record { told = toldOfTable listener with-it; listener = takenBy limit listener with-it }) 0
         → P (heardOf limit listener t) (ladder 0 (clashRow listener t))
     ways P repeat part clash taken =
         on (isLast (listener .last) (t .step))
@@ -56,86 +48,86 @@ module _ (limit : ℕ) (listener : Listener) where
         (λ d. both (heard-taken limit listener t a b c d) (ladder-silent 0 (clashRow listener t) (rw (a, b, c, d) refl, tt)) taken))
         (λ c. both (heard-part limit listener t a b c) (ladder-silent 0 (clashRow listener t) (rw (a, b, c) refl, tt)) part)))
       where
-        both : {h : Heard} {n : ℕ} → heardOf limit listener t ≡ h → ladder 0 (clashRow listener t) ≡ n → P h n → P (heardOf limit listener t) (ladder 0 (clashRow listener t))
+        both : {h : Hearing} {n : ℕ} → heardOf limit listener t ≡ h → ladder 0 (clashRow listener t) ≡ n → P h n → P (heardOf limit listener t) (ladder 0 (clashRow listener t))
         both {h} {n} e f p = subst (λ x. P x (ladder 0 (clashRow listener t))) (sym e) (subst (P h) (sym f) p)
 
   module _ (bytes : List ℕ) where
-    -- what the listener answers, and what it is then
-    abbrev heard : Heard
+    -- what the listener tells, and what it is then
+    abbrev heard : Hearing
     heard = hearOf limit listener (readOf bytes)
 
     -- R-20, R-21: the number that is given is that of the first row that holds
-    pub number-given : numberOf (heard .answer) ≡ ladder 0 (hearRows listener bytes)
+    pub number-given : heard .told .number ≡ ladder 0 (hearRows listener bytes)
     number-given = go (climb 0 (readRows bytes))
       where
-        go : Decides (readRows bytes) (ladder 0 (readRows bytes)) ⊎ Silent (readRows bytes) → numberOf (heard .answer) ≡ ladder 0 (hearRows listener bytes)
+        go : Decides (readRows bytes) (ladder 0 (readRows bytes)) ⊎ Silent (readRows bytes) → heard .told .number ≡ ladder 0 (hearRows listener bytes)
         go (inl d) =
             let number : ℕ = ladder 0 (readRows bytes) in
-            ap (λ (h : Heard). numberOf (h .answer)) (hear-refused limit listener (readOf bytes) number (reading-refused bytes number .1 d))
+            ap (λ (h : Hearing). h .told .number) (hear-refused limit listener (readOf bytes) number (reading-refused bytes number .1 d))
             ∙ sym (ladder-append 0 (readRows bytes) (clashRow listener (readOf bytes .telegram)) ∙ ladder-decides (ladder 0 (clashRow listener (readOf bytes .telegram))) number (readRows bytes) d)
         go (inr s) =
-            ap (λ (h : Heard). numberOf (h .answer)) (hear-as limit listener (readOf bytes) (reading-accepted bytes .1 s))
-            ∙ (ways (readOf bytes .telegram) (λ h n. numberOf (h .answer) ≡ n) refl refl refl refl
+            ap (λ (h : Hearing). h .told .number) (hear-as limit listener (readOf bytes) (reading-accepted bytes .1 s))
+            ∙ (ways (readOf bytes .telegram) (λ h n. h .told .number ≡ n) refl refl refl refl
             ∙ sym (ladder-append 0 (readRows bytes) (clashRow listener (readOf bytes .telegram)) ∙ ladder-silent (ladder 0 (clashRow listener (readOf bytes .telegram))) (readRows bytes) s))
 
     rows-numbered : Numbered (hearRows listener bytes)
     rows-numbered = numbered-append (readRows bytes) (clashRow listener (readOf bytes .telegram)) (read-numbered bytes) (omega arith)
 
     -- a refusal has a number above 0
-    positive : (number : ℕ) → heard .answer ≡ refused number → 1 ≤ number
+    positive : (number : ℕ) → heard .told ≡ refusedAs number → 1 ≤ number
     positive number e = go (climb 0 (readRows bytes))
       where
         go : Decides (readRows bytes) (ladder 0 (readRows bytes)) ⊎ Silent (readRows bytes) → 1 ≤ number
         go (inl d) =
-            let own : refused (ladder 0 (readRows bytes)) ≡ refused number =
-            sym (ap (λ (h : Heard). h .answer) (hear-refused limit listener (readOf bytes) (ladder 0 (readRows bytes)) (reading-refused bytes (ladder 0 (readRows bytes)) .1 d))) ∙ e in
-            omega (arith, ap numberOf own, decides-positive (readRows bytes) (ladder 0 (readRows bytes)) (read-numbered bytes) d)
+            let own : refusedAs (ladder 0 (readRows bytes)) ≡ refusedAs number =
+            sym (ap (λ (h : Hearing). h .told) (hear-refused limit listener (readOf bytes) (ladder 0 (readRows bytes)) (reading-refused bytes (ladder 0 (readRows bytes)) .1 d))) ∙ e in
+            omega (arith, ap (λ (told : Told). told .number) own, decides-positive (readRows bytes) (ladder 0 (readRows bytes)) (read-numbered bytes) d)
         go (inr s) =
-            ways (readOf bytes .telegram) (λ h n. h .answer ≡ refused number → 1 ≤ number)
-            (λ f. let z : _≡_ {A = ℕ} 0 1 = cc in absurd (omega arith))
-            (λ f. let z : _≡_ {A = ℕ} 0 1 = cc in absurd (omega arith))
-            (λ f. omega (arith, ap numberOf f))
-            (λ f. let z : _≡_ {A = ℕ} 0 1 = cc in absurd (omega arith))
-            (sym (ap (λ (h : Heard). h .answer) (hear-as limit listener (readOf bytes) (reading-accepted bytes .1 s))) ∙ e)
-
-    -- R-23: a refusal is given when its row holds and nothing earlier does, and never else
-    pub refused-when : (number : ℕ) → (heard .answer ≡ refused number) ↔ Decides (hearRows listener bytes) number
-    refused-when number = (
-      λ e. refused-exactly (hearRows listener bytes) rows-numbered number (positive number e) .0 (sym number-given ∙ ap numberOf e),
-      λ d.
-          let above : 1 ≤ number = decides-positive (hearRows listener bytes) number rows-numbered d in
-          refused-number (heard .answer) number above (number-given ∙ refused-exactly (hearRows listener bytes) rows-numbered number above .1 d),
-    )
+            ways (readOf bytes .telegram) (λ h n. h .told ≡ refusedAs number → 1 ≤ number) (λ f. absurd (repeat-or-refused number f)) (λ f. absurd (held-or-refused number f))
+            (λ f. omega (arith, ap (λ (told : Told). told .number) f))
+            (λ f. absurd (taken-or-refused _ _ _ number f)) (sym (ap (λ (h : Hearing). h .told) (hear-as limit listener (readOf bytes) (reading-accepted bytes .1 s))) ∙ e)
 
     -- R-24, L-11: what the reader refuses changes nothing
-    pub refused-unchanged : (number : ℕ) → Decides (readRows bytes) number → heard ≡ record { answer = refused number; listener = listener }
+    pub refused-unchanged : (number : ℕ) → Decides (readRows bytes) number → heard ≡ record { told = refusedAs number; listener = listener }
     refused-unchanged number d = hear-refused limit listener (readOf bytes) number (reading-refused bytes number .1 d)
 
     -- L-09, L-10: 15 drops the set in hand; picture, marks and last step stay
-    pub clash-drops : Silent (readRows bytes) → Decides (clashRow listener (readOf bytes .telegram)) 15 → heard ≡ record { answer = refused 15; listener = holding listener (begun 0) }
+    pub clash-drops : Silent (readRows bytes) → Decides (clashRow listener (readOf bytes .telegram)) 15 → heard ≡ record { told = refusedAs 15; listener = holding listener (begun 0) }
     clash-drops s d =
         hear-as limit listener (readOf bytes) (reading-accepted bytes .1 s)
-        ∙ ways (readOf bytes .telegram) (λ h n. n ≡ 15 → h ≡ record { answer = refused 15; listener = holding listener (begun 0) })
+        ∙ ways (readOf bytes .telegram) (λ h n. n ≡ 15 → h ≡ record { told = refusedAs 15; listener = holding listener (begun 0) })
         (λ e. absurd (omega arith)) (λ e. absurd (omega arith)) (λ e. refl) (λ e. absurd (omega arith))
         (ladder-decides 0 15 (clashRow listener (readOf bytes .telegram)) d)
 
+    -- R-23: a refusal is given when its row holds and nothing earlier does, and never else
+    pub refused-when : (number : ℕ) → (heard .told ≡ refusedAs number) ↔ Decides (hearRows listener bytes) number
+    refused-when number = (
+      λ e. refused-exactly (hearRows listener bytes) rows-numbered number (positive number e) .0 (sym number-given ∙ ap (λ (told : Told). told .number) e),
+      λ d. go (decides-append (readRows bytes) (clashRow listener (readOf bytes .telegram)) number d),
+    )
+      where
+        go : Decides (readRows bytes) number ⊎ (Silent (readRows bytes) × Decides (clashRow listener (readOf bytes .telegram)) number) → heard .told ≡ refusedAs number
+        go (inl d) = ap (λ (h : Hearing). h .told) (refused-unchanged number d)
+        go (inr (s, inl (holds, own))) = ap (λ (h : Hearing). h .told) (clash-drops s (inl (holds, refl))) ∙ ap refusedAs own
+        go (inr (s, inr (holds, none))) = absurd none
+
     -- which of the two it was
-    by-whom : (number : ℕ) → heard .answer ≡ refused number → Decides (readRows bytes) number ⊎ (Silent (readRows bytes) × Decides (clashRow listener (readOf bytes .telegram)) number)
+    by-whom : (number : ℕ) → heard .told ≡ refusedAs number → Decides (readRows bytes) number ⊎ (Silent (readRows bytes) × Decides (clashRow listener (readOf bytes .telegram)) number)
     by-whom number e = decides-append (readRows bytes) (clashRow listener (readOf bytes .telegram)) number (refused-when number .0 e)
 
     -- M-1f, L-11, R-24: so a refusal under another number than 15 changes nothing
-    pub others-unchanged : (number : ℕ) → (number ≡ 15 → ⊥) → heard .answer ≡ refused number → heard .listener ≡ listener
+    pub others-unchanged : (number : ℕ) → (number ≡ 15 → ⊥) → heard .told ≡ refusedAs number → heard .listener ≡ listener
     others-unchanged number other e = go (by-whom number e)
       where
         go : Decides (readRows bytes) number ⊎ (Silent (readRows bytes) × Decides (clashRow listener (readOf bytes .telegram)) number) → heard .listener ≡ listener
-        go (inl d) = ap (λ (h : Heard). h .listener) (refused-unchanged number d)
+        go (inl d) = ap (λ (h : Hearing). h .listener) (refused-unchanged number d)
         go (inr (s, inl (holds, own))) = absurd (other (sym own))
         go (inr (s, inr (holds, none))) = absurd none
 
     -- M-1f, L-10: and 15 drops the set in hand, and leaves the rest
-    pub fifteen-drops : heard .answer ≡ refused 15 → heard .listener ≡ holding listener (begun 0)
+    pub fifteen-drops : heard .told ≡ refusedAs 15 → heard .listener ≡ holding listener (begun 0)
     fifteen-drops e = go (by-whom 15 e)
       where
         go : Decides (readRows bytes) 15 ⊎ (Silent (readRows bytes) × Decides (clashRow listener (readOf bytes .telegram)) 15) → heard .listener ≡ holding listener (begun 0)
         go (inl d) = let low = decides-such (λ n. n ≤ 14) (readRows bytes) 15 (read-to-14 bytes) d in absurd (omega arith)
-        go (inr (s, d)) = ap (λ (h : Heard). h .listener) (clash-drops s d)
+        go (inr (s, d)) = ap (λ (h : Hearing). h .listener) (clash-drops s d)

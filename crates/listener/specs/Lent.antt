@@ -13,10 +13,9 @@ use Rattle.hand.specs.Lent.{handIn, handBytes, begunIn, joinedIn}
 use Rattle.hand.specs.Sets.{isWhole}
 use Rattle.last_step.specs.LastSteps.{gapFrom}
 use Rattle.last_step.specs.Lent.{lastIn, lastBytes, withLast}
+use Rattle.listener.specs.Answers.{Outcome, aRefusal, aRepeat, aPart, aTable, Told, Hearing, refusedAs, asHeld, takenAs, toldOf}
 use Rattle.listener.specs.Listeners.{hearOf}
 use Rattle.listener.specs.declared.Answer.{Answer}
-use Rattle.listener.specs.declared.Answer.the-variants.{Refused, Repeat, Held, Taken}
-use Rattle.listener.specs.declared.Heard.{Heard}
 use Rattle.listener.specs.declared.Listener.{Listener}
 
 -- ---- what the memory means
@@ -50,44 +49,48 @@ unfoldable pub takenIn : ℕ → List ℕ → List ℕ
 takenIn limit memory =
     shiftedIn memory (handIn memory .step) (marksOf limit (gapFrom (lastIn memory) (handIn memory .step)) (pictureIn memory) (setIn memory))
 
--- the memory after an answer. Refusal 15 alone drops the set.
-abbrev pub memoryAfter : ℕ → Answer → List ℕ → List ℕ → List ℕ
-memoryAfter limit (Refused number) memory telegram = cond (eqb number 15) (begunIn (withIt memory telegram) 0) memory
-memoryAfter limit Repeat memory telegram = memory
-memoryAfter limit Held memory telegram = withIt memory telegram
-memoryAfter limit (Taken step count gap) memory telegram = takenIn limit (withIt memory telegram)
+-- the memory after an answer of this outcome and number. Refusal 15 alone drops the set.
+abbrev pub memoryBy : Outcome → ℕ → ℕ → List ℕ → List ℕ → List ℕ
+memoryBy aRefusal number limit memory telegram = cond (eqb number 15) (begunIn (withIt memory telegram) 0) memory
+memoryBy aRepeat number limit memory telegram = memory
+memoryBy aPart number limit memory telegram = withIt memory telegram
+memoryBy aTable number limit memory telegram = takenIn limit (withIt memory telegram)
 
--- What a hearing leaves: the answer and the listener that the memory then means are those of `heard`, and every byte is determined.
-pub record LeftBy (limit : ℕ) (heard : Heard) (memory telegram : List ℕ) (answer : Answer) (after : List ℕ) : Type 0 where
-  pub meant : _≡_ {A = Heard} (record { answer = answer; listener = listenerIn after }) heard
-  pub bytes : after ≡ memoryAfter limit answer memory telegram
+-- the memory after what an answer tells
+abbrev pub memoryAfter : ℕ → Told → List ℕ → List ℕ → List ℕ
+memoryAfter limit told memory telegram = memoryBy (told .outcome) (told .number) limit memory telegram
+
+-- What a hearing leaves: what is told and the listener that the memory then means are those of `heard`, and every byte is determined.
+pub record LeftBy (limit : ℕ) (heard : Hearing) (memory telegram : List ℕ) (told : Told) (after : List ℕ) : Type 0 where
+  pub meant : _≡_ {A = Hearing} (record { told = told; listener = listenerIn after }) heard
+  pub bytes : after ≡ memoryAfter limit told memory telegram
 
 -- M-1b: hearing takes the listener that the memory means to the next one
 abbrev pub HeardIn : ℕ → List ℕ → List ℕ → Answer → List ℕ → Type 0
-HeardIn limit memory telegram answer after = LeftBy limit (hearOf limit (listenerIn memory) (readOf telegram)) memory telegram answer after
+HeardIn limit memory telegram answer after = LeftBy limit (hearOf limit (listenerIn memory) (readOf telegram)) memory telegram (toldOf answer) after
 
 -- ---- the parts of a hearing, on the memory
 
--- an answer, and the memory after it
+-- what is told, and the memory after it
 pub record Left : Type 0 where
-  pub answer : Answer
+  pub told : Told
   pub memory : List ℕ
 
 -- a whole set is taken
 unfoldable pub takenLeft : ℕ → List ℕ → Left
 takenLeft limit memory =
     record {
-      answer = Taken (handIn memory .step) (countOf (setIn memory)) (gapFrom (lastIn memory) (handIn memory .step));
+      told = takenAs (handIn memory .step) (countOf (setIn memory)) (gapFrom (lastIn memory) (handIn memory .step));
       memory = takenIn limit memory;
     }
 
 -- a whole set is refused, or taken
 unfoldable pub judgedLeft : ℕ → List ℕ → Left
-judgedLeft limit memory = cond (clashes (setIn memory)) (record { answer = Refused 15; memory = begunIn memory 0 }) (takenLeft limit memory)
+judgedLeft limit memory = cond (clashes (setIn memory)) (record { told = refusedAs 15; memory = begunIn memory 0 }) (takenLeft limit memory)
 
 -- a telegram goes into the set, which is judged once it is whole
 unfoldable pub addedLeft : ℕ → List ℕ → List ℕ → Left
 addedLeft limit memory telegram =
     cond (isWhole (handIn (joinedIn memory telegram)))
     (judgedLeft limit (joinedIn memory telegram))
-    (record { answer = Held; memory = joinedIn memory telegram })
+    (record { told = asHeld; memory = joinedIn memory telegram })

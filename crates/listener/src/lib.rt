@@ -11,6 +11,7 @@ ghost use mathlib.Core.Path.{_≡_};
 ghost use Rattle.telegram.specs.Telegrams.{packetIn, stepIn, telegramOf, readRefusal, readOf};
 ghost use Rattle.hand.specs.Lent.{handIn};
 ghost use Rattle.hand.specs.Sets.{setFor, isHeld};
+ghost use Rattle.listener.specs.Answers.{toldOf, hearingOf};
 ghost use Rattle.listener.specs.Listeners.{carries, freshListener, heardOf, hearOf};
 ghost use Rattle.listener.specs.Lent.{listenerIn, bytesOf, memoryFor, shiftedIn, LeftBy, HeardIn, takenLeft, judgedLeft, addedLeft};
 
@@ -59,7 +60,7 @@ impl Listener {
 
     // Hears a telegram of any bytes and any length.
     pub fn hear(self, telegram: &[u8]) -> Heard
-        ensures { λ r. ⌜ r ≡ hearOf carries self (readOf (now (telegram .entry))) ⌝ }
+        ensures { λ r. ⌜ hearingOf r ≡ hearOf carries self (readOf (now (telegram .entry))) ⌝ }
     {
         let mut memory = memory_of(self);
         let answer = hear_in(&mut memory, telegram);
@@ -126,7 +127,7 @@ fn shift(memory: &mut [u8; 310], step: u16, marks: [bool; 20])
 
 // A whole set is taken.
 fn take(memory: &mut [u8; 310]) -> Answer
-    ensures { λ r. ⌜ record { answer = r; memory = now (memory .exit) } ≡ takenLeft carries (now (memory .entry)) ⌝ }
+    ensures { λ r. ⌜ record { told = toldOf r; memory = now (memory .exit) } ≡ takenLeft carries (now (memory .entry)) ⌝ }
 {
     let step = hand::step_of(memory);
     let last = last_step::last_in(memory);
@@ -139,7 +140,7 @@ fn take(memory: &mut [u8; 310]) -> Answer
 
 // A whole set is refused, or taken.
 fn judge(memory: &mut [u8; 310]) -> Answer
-    ensures { λ r. ⌜ record { answer = r; memory = now (memory .exit) } ≡ judgedLeft carries (now (memory .entry)) ⌝ }
+    ensures { λ r. ⌜ record { told = toldOf r; memory = now (memory .exit) } ≡ judgedLeft carries (now (memory .entry)) ⌝ }
 {
     if picture::clashes(memory) {
         hand::begin(memory, 0);
@@ -150,7 +151,7 @@ fn judge(memory: &mut [u8; 310]) -> Answer
 
 // A telegram goes into the set, which is judged once it is whole.
 fn add(memory: &mut [u8; 310], telegram: &[u8]) -> Answer
-    ensures { λ r. ⌜ record { answer = r; memory = now (memory .exit) } ≡ addedLeft carries (now (memory .entry)) (now (telegram .entry)) ⌝ }
+    ensures { λ r. ⌜ record { told = toldOf r; memory = now (memory .exit) } ≡ addedLeft carries (now (memory .entry)) (now (telegram .entry)) ⌝ }
 {
     hand::join(memory, telegram);
     if hand::is_whole(memory) {
@@ -173,7 +174,7 @@ fn find_or_begin(memory: &mut [u8; 310], step: u16, packet: u8) -> bool
 // A telegram that the reader accepts.
 fn listen(memory: &mut [u8; 310], telegram: &[u8]) -> Answer
     requires { ⌜ readRefusal (now telegram) ≡ 0 ⌝ }
-    ensures { λ r. ⌜ LeftBy carries (heardOf carries (listenerIn (now (memory .entry))) (telegramOf (now (telegram .entry)))) (now (memory .entry)) (now (telegram .entry)) r (now (memory .exit)) ⌝ }
+    ensures { λ r. ⌜ LeftBy carries (heardOf carries (listenerIn (now (memory .entry))) (telegramOf (now (telegram .entry)))) (now (memory .entry)) (now (telegram .entry)) (toldOf r) (now (memory .exit)) ⌝ }
 {
     let whole: &[u8] = memory;
     let step = step_in(telegram);

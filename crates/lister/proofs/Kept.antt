@@ -6,7 +6,7 @@ use lib.ListN.{length, take, drop, replicate, length-append, length-replicate}
 use lib.Seq.{sets, sets-eq, take-at, take-append-seam, drop-append-add, drop-nil}
 use native.Mathlib.Omega.{arith}
 use Rattle.kit.specs.Put.{Poured}
-use Rattle.listener.specs.declared.Heard.{Heard}
+use Rattle.listener.specs.Answers.{Hearing}
 use Rattle.listener.specs.declared.Listener.{Listener}
 use Rattle.listing_tables.specs.Tables.{heardLines, tablesOf}
 use Rattle.lister.specs.Hearings.{telegrams, tailOf, heard, listenerAfter, linesFor, tablesTaken}
@@ -162,14 +162,14 @@ module _ {lister : Lister} {bytes : List ℕ} (k : Kept lister bytes) {piece aft
       (filled ∙ (ap (λ (n : ℕ). (bytes ++ piece) ++ zeros n) none ∙ append-nil (bytes ++ piece)), all)
 
 -- one telegram heard
-pub heard-one : (lister : Lister) (telegram : List ℕ) {h : Heard} {tables more : ℕ} → h ≡ heard (lister .listener) telegram → more ≡ tablesOf (h .answer)
+pub heard-one : (lister : Lister) (telegram : List ℕ) {h : Hearing} {tables more : ℕ} → h ≡ heard (lister .listener) telegram → more ≡ tablesOf (h .told)
     → tables ≡ min (lister .tables + more) mostTables → state (h .listener) tables (padded []) 0 ≡ keeping lister (telegram ∷ []) []
 unfolding keeping listenerAfter tablesTaken
 heard-one lister telegram {h} {tables} {more} same one sum =
     let l = lister .listener in
-    let told : more ≡ tablesOf (heard l telegram .answer) = one ∙ ap (λ (x : Heard). tablesOf (x .answer)) same in
-    let exact : tables ≡ min (lister .tables + (tablesOf (heard l telegram .answer) + 0)) mostTables = omega (arith, sum, told) in
-    ap (λ (x : Heard). state (x .listener) tables (padded []) 0) same ∙ ap (λ (n : ℕ). state (heard l telegram .listener) n (padded []) 0) exact
+    let told : more ≡ tablesOf (heard l telegram .told) = one ∙ ap (λ (x : Hearing). tablesOf (x .told)) same in
+    let exact : tables ≡ min (lister .tables + (tablesOf (heard l telegram .told) + 0)) mostTables = omega (arith, sum, told) in
+    ap (λ (x : Hearing). state (x .listener) tables (padded []) 0) same ∙ ap (λ (n : ℕ). state (heard l telegram .listener) n (padded []) 0) exact
 
 pub lines-of-one : (listener : Listener) (telegram : List ℕ) → linesFor listener (telegram ∷ []) ≡ heardLines (heard listener telegram)
 unfolding linesFor

@@ -4,28 +4,27 @@ use mathlib.Core.Path.{_≡_, ap, _∙_}
 use mathlib.Core.List.{List}
 use lib.ListN.{length, take, drop}
 use native.Mathlib.Omega.{arith}
+use Rattle.listener.specs.Answers.{Outcome, aRefusal, aRepeat, aPart, aTable}
 use Rattle.listener.specs.Listeners.{freshListener}
-use Rattle.listener.specs.declared.Answer.{Answer}
-use Rattle.listener.specs.declared.Answer.the-variants.{Refused, Repeat, Held, Taken}
 use Rattle.listener.specs.declared.Listener.{Listener}
-use Rattle.listing_tables.specs.Tables.{tablesOf}
+use Rattle.listing_tables.specs.Tables.{tablesBy}
 use Rattle.lister.specs.Hearings.{cut, heard, telegrams, tailOf, linesFor, tablesTaken}
 use Rattle.lister.specs.Pieces.{mostTables, begun, joined, keeping, takeOf, linesOf}
 use Rattle.lister.proofs.Kept.{begun-kept, joined-kept}
 
 -- one telegram takes at most one table, so that a recording cannot take more than its count can hold
-at-most-one : (a : Answer) → tablesOf a ≤ 1
-at-most-one (Refused number) = omega arith
-at-most-one Repeat = omega arith
-at-most-one Held = omega arith
-at-most-one (Taken step count gap) = omega arith
+at-most-one : (outcome : Outcome) → tablesBy outcome ≤ 1
+at-most-one aRefusal = omega arith
+at-most-one aRepeat = omega arith
+at-most-one aPart = omega arith
+at-most-one aTable = omega arith
 
 few : (l : Listener) (n : ℕ) (bytes : List ℕ) → tablesTaken l (cut n bytes) ≤ n
 unfolding tablesTaken cut
 few l zero bytes = omega arith
 few l (suc n) bytes =
     let one = heard l (take 26 bytes) in
-    omega (arith, at-most-one (one .answer), few (one .listener) n (drop 26 bytes))
+    omega (arith, at-most-one (one .told .outcome), few (one .listener) n (drop 26 bytes))
 
 few-tables : (bytes : List ℕ) → length bytes ≤ mostTables → tablesTaken freshListener (telegrams bytes) ≤ mostTables
 unfolding telegrams

@@ -3,8 +3,8 @@ use Prim.Native.Nat.{ℕ, zero, suc, _+_, _*_, _/_}
 use mathlib.Core.List.{List, [], _∷_, _++_}
 use lib.ListN.{length, take, drop}
 use Rattle.telegram.specs.Telegrams.{readOf}
+use Rattle.listener.specs.Answers.{Hearing}
 use Rattle.listener.specs.Listeners.{carries, hearOf}
-use Rattle.listener.specs.declared.Heard.{Heard}
 use Rattle.listener.specs.declared.Listener.{Listener}
 use Rattle.listing_tables.specs.Tables.{heardLines, tablesOf}
 
@@ -27,8 +27,8 @@ telegrams bytes = cut (wholeCount bytes) bytes
 unfoldable pub tailOf : List ℕ → List ℕ
 tailOf bytes = drop (wholeCount bytes * telegramLength) bytes
 
--- W-04: what a listener answers to one telegram, and the listener after it
-abbrev pub heard : Listener → List ℕ → Heard
+-- W-04: what a listener tells of one telegram, and the listener after it
+abbrev pub heard : Listener → List ℕ → Hearing
 heard listener telegram = hearOf carries listener (readOf telegram)
 
 -- W-04: the listener after telegrams, the oldest first
@@ -44,4 +44,4 @@ linesFor listener (telegram ∷ more) = heardLines (heard listener telegram) ++ 
 -- G-09, C-09: how many tables were taken
 unfoldable pub tablesTaken : Listener → List (List ℕ) → ℕ
 tablesTaken listener [] = 0
-tablesTaken listener (telegram ∷ more) = tablesOf (heard listener telegram .answer) + tablesTaken (heard listener telegram .listener) more
+tablesTaken listener (telegram ∷ more) = tablesOf (heard listener telegram .told) + tablesTaken (heard listener telegram .listener) more

@@ -28,9 +28,8 @@ use Rattle.hand.specs.declared.Hand.{Hand}
 use Rattle.last_step.specs.LastSteps.{gapFrom}
 use Rattle.last_step.specs.declared.Last.{Last}
 use Rattle.last_step.specs.declared.Last.the-variants.{Never, Step}
+use Rattle.listener.specs.Answers.{Told}
 use Rattle.listener.specs.Listeners.{afterReading, heardOf, hearOf}
-use Rattle.listener.specs.declared.Answer.{Answer}
-use Rattle.listener.specs.declared.Answer.the-variants.{Refused as refused, Repeat, Held, Taken}
 use Rattle.listener.specs.declared.Listener.{Listener}
 use Rattle.listener.proofs.Promises.{ways}
 
@@ -58,14 +57,14 @@ step-small bytes = read-either (λ t. t .step < steps) bytes (omega arith) (omeg
 verdict-small : (bytes : List ℕ) (number : ℕ) → readOf bytes .verdict ≡ Refused number → number ≤ 15
 verdict-small bytes number e = let below = decides-such (λ n. n ≤ 14) (readRows bytes) number (read-to-14 bytes) (reading-refused bytes number .0 e) in omega arith
 
--- ---- what is answered
+-- ---- what is told
 
--- the numbers of an answer are such
-abbrev pub Small : Answer → Type 0
-Small (refused number) = number ≤ 15
-Small Repeat = Unit
-Small Held = Unit
-Small (Taken step count gap) = (step < steps) × (count ≤ slots) × (gap < steps)
+-- its numbers are such
+pub record Small (told : Told) : Type 0 where
+  pub number : told .number ≤ 15
+  pub step : told .step < steps
+  pub conditions : told .conditions ≤ slots
+  pub gap : told .gap < steps
 
 set-step : (hand : Hand) (step : ℕ) → setFor hand step .step ≡ step
 unfolding setFor begun
@@ -81,18 +80,26 @@ unfolding countOf
 count-small table = count-most (λ i. isOccupied (tableSlot table i)) slots
 
 module _ (limit : ℕ) (listener : Listener) where
-  heard-small : (t : Telegram) → t .step < steps → Small (heardOf limit listener t .answer)
+  heard-small : (t : Telegram) → t .step < steps → Small (heardOf limit listener t .told)
   unfolding joined
   heard-small t below =
       let set = setFor (listener .hand) (t .step) in
-      ways limit listener t (λ h number. Small (h .answer)) tt tt (omega arith)
-      (omega (arith, set-step (listener .hand) (t .step)), count-small (joined set t .slots), gap-small (listener .last) (set .step))
+      ways limit listener t (λ h number. Small (h .told))
+      (record { number = omega arith; step = omega arith; conditions = omega arith; gap = omega arith })
+      (record { number = omega arith; step = omega arith; conditions = omega arith; gap = omega arith })
+      (record { number = omega arith; step = omega arith; conditions = omega arith; gap = omega arith })
+      (record {
+        number = omega arith;
+        step = omega (arith, set-step (listener .hand) (t .step));
+        conditions = count-small (joined set t .slots);
+        gap = gap-small (listener .last) (set .step);
+      })
 
-  after-small : (t : Telegram) → t .step < steps → (verdict : Verdict) → ((number : ℕ) → verdict ≡ Refused number → number ≤ 15) → Small (afterReading verdict limit listener t .answer)
+  after-small : (t : Telegram) → t .step < steps → (verdict : Verdict) → ((number : ℕ) → verdict ≡ Refused number → number ≤ 15) → Small (afterReading verdict limit listener t .told)
   after-small t below Accepted most = heard-small t below
-  after-small t below (Refused number) most = most number refl
+  after-small t below (Refused number) most = record { number = most number refl; step = omega arith; conditions = omega arith; gap = omega arith }
 
   -- whatever the bytes
-  pub hear-small : (bytes : List ℕ) → Small (hearOf limit listener (readOf bytes) .answer)
+  pub hear-small : (bytes : List ℕ) → Small (hearOf limit listener (readOf bytes) .told)
   unfolding hearOf
   hear-small bytes = after-small (readOf bytes .telegram) (step-small bytes) (readOf bytes .verdict) (verdict-small bytes)

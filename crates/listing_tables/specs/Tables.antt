@@ -6,10 +6,8 @@ use Rattle.kit.specs.Each.{each}
 use Rattle.condition.specs.Slots.{slots}
 use Rattle.condition.specs.declared.slots.Slot.{Slot}
 use Rattle.telegram.specs.Tables.{tableSlot}
+use Rattle.listener.specs.Answers.{Outcome, aRefusal, aRepeat, aPart, aTable, Told, Hearing}
 use Rattle.listener.specs.Listeners.{markAt}
-use Rattle.listener.specs.declared.Answer.{Answer}
-use Rattle.listener.specs.declared.Answer.the-variants.{Refused, Repeat, Held, Taken}
-use Rattle.listener.specs.declared.Heard.{Heard}
 use Rattle.listing_lines.specs.Lines.{tableLine, refusedLine}
 use Rattle.listing_entries.specs.Entries.{entryLine}
 
@@ -22,26 +20,38 @@ unfoldable pub pictureLines : List Slot → List Bool → List ℕ
 pictureLines picture marks = each (entryAt picture marks) 0 slots
 
 -- G-07: a refusal prints `refused N`; A-35: repeats and held telegrams print nothing
-abbrev pub refusalLines : Answer → List ℕ
-refusalLines (Refused number) = refusedLine number
-refusalLines Repeat = []
-refusalLines Held = []
-refusalLines (Taken step count gap) = []
+abbrev pub refusalBy : Outcome → Told → List ℕ
+refusalBy aRefusal told = refusedLine (told .number)
+refusalBy aRepeat told = []
+refusalBy aPart told = []
+refusalBy aTable told = []
+
+-- G-07: what is printed for a refusal, of what is told
+abbrev pub refusalLines : Told → List ℕ
+refusalLines told = refusalBy (told .outcome) told
 
 -- G-03: for each table taken its line, then those of its slots
-abbrev pub answerLines : Answer → List Slot → List Bool → List ℕ
-answerLines (Refused number) picture marks = refusalLines (Refused number)
-answerLines Repeat picture marks = refusalLines Repeat
-answerLines Held picture marks = refusalLines Held
-answerLines (Taken step count gap) picture marks = tableLine step count gap ++ pictureLines picture marks
+abbrev pub linesBy : Outcome → Told → List Slot → List Bool → List ℕ
+linesBy aRefusal told picture marks = refusalLines told
+linesBy aRepeat told picture marks = refusalLines told
+linesBy aPart told picture marks = refusalLines told
+linesBy aTable told picture marks = tableLine (told .step) (told .conditions) (told .gap) ++ pictureLines picture marks
 
--- the same, of the answer and the listener beside it
-unfoldable pub heardLines : Heard → List ℕ
-heardLines heard = answerLines (heard .answer) (heard .listener .picture) (heard .listener .marks)
+-- G-03, G-07: what is printed, of what is told
+abbrev pub answerLines : Told → List Slot → List Bool → List ℕ
+answerLines told picture marks = linesBy (told .outcome) told picture marks
+
+-- the same, with picture and marks of the listener beside it
+unfoldable pub heardLines : Hearing → List ℕ
+heardLines heard = answerLines (heard .told) (heard .listener .picture) (heard .listener .marks)
 
 -- G-09: how many tables an answer takes: one or none
-abbrev pub tablesOf : Answer → ℕ
-tablesOf (Refused number) = 0
-tablesOf Repeat = 0
-tablesOf Held = 0
-tablesOf (Taken step count gap) = 1
+abbrev pub tablesBy : Outcome → ℕ
+tablesBy aRefusal = 0
+tablesBy aRepeat = 0
+tablesBy aPart = 0
+tablesBy aTable = 1
+
+-- G-09: the same of what is told
+abbrev pub tablesOf : Told → ℕ
+tablesOf told = tablesBy (told .outcome)

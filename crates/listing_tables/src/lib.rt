@@ -11,6 +11,7 @@ ghost use Prim.Native.Nat.{_+_, _≤_};
 ghost use Rattle.kit.specs.Put.{Poured};
 ghost use Rattle.page.specs.Pages.{Paged};
 ghost use Rattle.memory.specs.Memory.{pictureIn, marksIn};
+ghost use Rattle.listener.specs.Answers.{toldOf};
 ghost use Rattle.listing_lines.specs.Lines.{tableLine};
 ghost use Rattle.listing_tables.specs.Tables.{pictureLines, refusalLines, answerLines, tablesOf};
 
@@ -49,7 +50,7 @@ fn put_table(
 
 // A line for a refusal, and none for any other answer.
 fn put_refusal(answer: Answer, listing: &mut [u8], at: usize) -> usize
-    ensures { λ r. ⌜ Poured (now (listing .entry)) at (refusalLines answer) (now (listing .exit)) r ⌝ }
+    ensures { λ r. ⌜ Poured (now (listing .entry)) at (refusalLines (toldOf answer)) (now (listing .exit)) r ⌝ }
 {
     let Answer::Refused(number) = answer else {
         return text::put_words(listing, at, b"");
@@ -59,7 +60,7 @@ fn put_refusal(answer: Answer, listing: &mut [u8], at: usize) -> usize
 
 // The lines of an answer, with the memory of the listener that gave it.
 pub fn put_heard(answer: Answer, memory: &[u8; 310], listing: &mut [u8], at: usize) -> usize
-    ensures { λ r. ⌜ Poured (now (listing .entry)) at (answerLines answer (pictureIn (now (memory .entry))) (marksIn (now (memory .entry)))) (now (listing .exit)) r ⌝ }
+    ensures { λ r. ⌜ Poured (now (listing .entry)) at (answerLines (toldOf answer) (pictureIn (now (memory .entry))) (marksIn (now (memory .entry)))) (now (listing .exit)) r ⌝ }
 {
     let Answer::Taken { step, count, gap } = answer else {
         return put_refusal(answer, listing, at);
@@ -69,7 +70,7 @@ pub fn put_heard(answer: Answer, memory: &[u8; 310], listing: &mut [u8], at: usi
 
 // How many tables an answer takes: one or none.
 pub fn tables_of(answer: Answer) -> u64
-    ensures { λ r. ⌜ r ≡ tablesOf answer ⌝ }
+    ensures { λ r. ⌜ r ≡ tablesOf (toldOf answer) ⌝ }
 {
     let Answer::Taken { .. } = answer else {
         return 0;

@@ -9,6 +9,7 @@ use Rattle.hand.proofs as hand
 use Rattle.picture.proofs as picture
 use Rattle.marks.proofs as marks
 use Rattle.listener.proofs as listener
+use Rattle.listener.proofs.Answers.{hearing-apart}
 use Rattle.listener.proofs.Lent.{heard-once}
 
 -- ---- memory
@@ -102,7 +103,7 @@ pub listener-fresh : OneAnswer listener.Listener.fresh.ended listener.Listener.f
 listener-fresh κs handed answer other lasts others p q = (agree p q, refl)
 
 pub listener-hear : OneAnswer listener.Listener.hear.ended listener.Listener.hear.Reads.Learnt
-listener-hear κs handed answer other lasts others p q = (agree p q, refl)
+listener-hear κs handed answer other lasts others p q = (hearing-apart answer other (agree p q), refl)
 
 pub listener-memory-of : OneAnswer listener.memory_of.ended listener.memory_of.Reads.Learnt
 listener-memory-of κs handed answer other lasts others p q = (agree p q, refl)

@@ -20,7 +20,7 @@ returns-2 : tie.Need-returns-2
 returns-2 c =
     let read = c .before .before .before in
     let a = read .before .before .args in
-    left-accepted (a .memory .now) (a .telegram .now) _ _ (sym (read .refusal-of .ensures) ∙ c .before .before .if1 .left) (c .listen .ensures)
+    left-accepted (a .memory .now) (a .telegram .now) (c .listen .result) _ (sym (read .refusal-of .ensures) ∙ c .before .before .if1 .left) (c .listen .ensures)
 
 pub hear-in-spec : {M : Type 1} → statement M
 hear-in-spec = tie.close (tie.spec refusal-of-requires returns listen-requires returns-2)

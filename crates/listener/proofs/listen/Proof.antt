@@ -10,6 +10,7 @@ use Rattle.hand.specs.Lent.{handIn}
 use Rattle.hand.specs.Sets.{setFor, isHeld}
 use Rattle.last_step.specs.LastSteps.{isLast}
 use Rattle.last_step.specs.Lent.{lastIn}
+use Rattle.listener.specs.Answers.{toldOf}
 use Rattle.listener.specs.Lent.{memoryFor}
 use Rattle.listener.proofs.Lent.{left-last, left-found, left-joined}
 use borrow.Author.Needs.{needs}
@@ -85,7 +86,7 @@ returns-3 c =
     sym (ap₂ (λ s p. isHeld (setFor (handIn memory) s) p) (step .step-in .ensures) (packet .packet-in .ensures .0)) ∙ (sym (find .find-or-begin .ensures .0) ∙ c .before .before .if2 .left) in
     let long : length memory ≡ room = search needs in
     left-joined memory telegram whole small long later _ (find .find-or-begin .ensures .1 ∙ ap (memoryFor memory) (step .step-in .ensures)) free
-    (record { answer = c .add .result; memory = c .add .last .0 }) (c .add .ensures)
+    (record { told = toldOf (c .add .result); memory = c .add .last .0 }) (c .add .ensures)
 
 pub listen-spec : {M : Type 1} → statement M
 listen-spec =

@@ -35,7 +35,7 @@ returns c =
     let meant = heard .hear-in .ensures .meant in (
       record {
         means = ap (λ h. h .listener) meant;
-        counts = sum .tally .ensures ∙ ap (λ n. min (a .tables + n) mostTables) (one .tables-of .ensures ∙ ap (λ h. tablesOf (h .answer)) meant);
+        counts = sum .tally .ensures ∙ ap (λ n. min (a .tables + n) mostTables) (one .tables-of .ensures ∙ ap (λ h. tablesOf (h .told)) meant);
       },
       poured-as (sym (ap heardLines meant)) (put .put-heard .ensures),
     )

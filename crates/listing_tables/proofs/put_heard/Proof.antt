@@ -2,6 +2,7 @@
 use mathlib.Core.Path.{ap}
 use Rattle.kit.proofs.Put.{poured-as}
 use Rattle.memory.specs.Memory.{pictureIn, marksIn}
+use Rattle.listener.specs.Answers.{toldOf}
 use Rattle.listener.specs.declared.Answer.{Answer}
 use Rattle.listing_tables.specs.Tables.{answerLines}
 use Rattle.listing_tables.proofs.Others.{untaken}
@@ -35,7 +36,7 @@ returns-2 c =
     let put = c .before .before in
     let one = put .before .before .before in
     let memory = one .before .before .before .args .memory .now in
-    poured-as (ap (λ (x : Answer). answerLines x (pictureIn memory) (marksIn memory)) (one .answer .given .1)) (put .put-table .ensures)
+    poured-as (ap (λ (x : Answer). answerLines (toldOf x) (pictureIn memory) (marksIn memory)) (one .answer .given .1)) (put .put-table .ensures)
 
 pub put-heard-spec : {M : Type 1} → statement M
 put-heard-spec =

@@ -1,6 +1,8 @@
 -- `put_refusal`: the line of a refusal, nothing for the others.
 use mathlib.Core.Path.{ap}
 use Rattle.kit.proofs.Put.{poured-as}
+use Rattle.listener.specs.Answers.{toldOf}
+use Rattle.listener.specs.declared.Answer.{Answer}
 use Rattle.listing_tables.specs.Tables.{refusalLines}
 use Rattle.listing_tables.proofs.Others.{unrefused}
 use borrow.Author.Needs.{needs}
@@ -29,7 +31,7 @@ same-length-2 : tie.Need-same-length-2
 same-length-2 c = search needs
 
 returns-2 : tie.Need-returns-2
-returns-2 c = poured-as (ap refusalLines (c .before .before .before .before .before .answer .given .1)) (c .before .before .put-refused .ensures)
+returns-2 c = poured-as (ap (λ (x : Answer). refusalLines (toldOf x)) (c .before .before .before .before .before .answer .given .1)) (c .before .before .put-refused .ensures)
 
 pub put-refusal-spec : {M : Type 1} → statement M
 put-refusal-spec =

@@ -2,6 +2,7 @@
 use mathlib.Core.Path.{sym, ap, _∙_}
 use lib.ListN.{length-map}
 use Rattle.telegram.specs.Telegrams.{readOf}
+use Rattle.listener.specs.Answers.{toldOf}
 use Rattle.listener.specs.Listeners.{carries, hearOf}
 use Rattle.listener.specs.Lent.{listenerIn}
 use Rattle.listener.proofs.Back.{Sized, means-back}
@@ -33,7 +34,7 @@ returns c =
       held = sym (length-map (a .self .hand .held) _) ∙ hand .1 .0 .1 .0 .1;
       set = sym (length-map (a .self .hand .slots) _) ∙ hand .1 .1 .0 .1 .0 .1;
     } in
-    ap (λ l. record { answer = heard .hear-in .result; listener = l }) (c .listener-in .ensures)
+    ap (λ l. record { told = toldOf (heard .hear-in .result); listener = l }) (c .listener-in .ensures)
     ∙ (heard .hear-in .ensures .meant
     ∙ ap (λ l. hearOf carries l (readOf (a .telegram .now)))
     (ap listenerIn (made .memory-of .ensures) ∙ means-back (a .self) sized))
