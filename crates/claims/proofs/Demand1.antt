@@ -3,8 +3,11 @@ use Prim.Native.Nat.{ℕ}
 use mathlib.Core.Path.{_≡_, refl, sym, ap, _∙_, subst, subst⁻¹}
 use mathlib.Core.Bool.{Bool, true, false}
 use mathlib.Core.List.{List}
+use mathlib.Core.Logic.{_↔_}
 use contract.Monad.{fact-mono}
 use lib.ListN.{length}
+use Rattle.kit.specs.Ladder.{Silent}
+use Rattle.kit.proofs.Cases.{given}
 use Rattle.kit.proofs.Contracts.{agree, both-facts}
 use Rattle.wire.specs.declared.verdicts.Verdict.the-variants.{Refused}
 use Rattle.telegram.specs.Telegrams.{readRows, writeRows}
@@ -17,10 +20,10 @@ use Rattle.hand.specs.Sets.{begun}
 use Rattle.listener.specs.Listeners.{carries, holding, hearRows}
 use Rattle.listener.specs.declared.Answer.the-variants as Heard
 use Rattle.listener.proofs.Promises as listener-promises
+use Rattle.signals.specs.Answers.{acceptance, absence, refusalUnder, Updating}
 use Rattle.signals.specs.Signals.{missedBy, updateOf}
 use Rattle.signals.specs.declared.Signals.{Signals}
-use Rattle.signals.specs.declared.Updated.{Updated}
-use Rattle.signals.specs.declared.Answer.the-variants as Train
+use Rattle.signals.proofs.Answers.{noted-apart, updating-apart}
 use Rattle.signals.proofs.Promises as train-promises
 use Rattle.claims.specs.Demand1.{RefusedBy, Lists, Telegrams, TrainTelegrams, TrainTelegramsLent, Buffers, Demand1}
 
@@ -50,35 +53,46 @@ telegrams =
 
 -- a call with a telegram, and one with none; the promise of the answer and of the record, whether it is handed over or lent
 module _ (signals : Signals) (telegram : List ℕ) where
-  call-refused : (present : Bool) → present ≡ true → RefusedBy (trainRows telegram) Train.Refused (updateOf signals present telegram .answer)
-  call-refused present with-one = subst (λ b. RefusedBy (trainRows telegram) Train.Refused (updateOf signals b telegram .answer)) (sym with-one) (train-promises.refused-exactly signals telegram)
+  call-refused : (present : Bool) → present ≡ true → RefusedBy (trainRows telegram) refusalUnder (updateOf signals present telegram .noted)
+  call-refused present with-one = subst (λ b. RefusedBy (trainRows telegram) refusalUnder (updateOf signals b telegram .noted)) (sym with-one) (train-promises.refused-exactly signals telegram)
 
-  call-absent : (present : Bool) → present ≡ false → updateOf signals present telegram .answer ≡ Train.Missed
-  call-absent present none = ap (λ b. updateOf signals b telegram .answer) none ∙ ap (λ (u : Updated). u .answer) (train-promises.absent-misses signals telegram)
+  call-absent : (present : Bool) → present ≡ false → (updateOf signals present telegram .noted ≡ absence) × (updateOf signals present telegram .signals ≡ missedBy signals)
+  call-absent present none =
+      let same : updateOf signals present telegram ≡ record { noted = absence; signals = missedBy signals } = ap (λ b. updateOf signals b telegram) none ∙ train-promises.absent-misses signals telegram in
+      (ap (λ (u : Updating). u .noted) same, ap (λ (u : Updating). u .signals) same)
 
-  call-missed : (present : Bool) (number : ℕ) → updateOf signals present telegram .answer ≡ Train.Refused number → updateOf signals present telegram .signals ≡ missedBy signals
+  call-accepted : (present : Bool) → present ≡ true → (updateOf signals present telegram .noted ≡ acceptance) ↔ Silent (trainRows telegram)
+  call-accepted present with-one = subst (λ b. (updateOf signals b telegram .noted ≡ acceptance) ↔ Silent (trainRows telegram)) (sym with-one) (train-promises.accepted-exactly signals telegram)
+
+  call-missed : (present : Bool) (number : ℕ) → updateOf signals present telegram .noted ≡ refusalUnder number → updateOf signals present telegram .signals ≡ missedBy signals
   call-missed true number e = train-promises.refused-misses signals telegram number e
-  call-missed false number e = ap (λ (u : Updated). u .signals) (train-promises.absent-misses signals telegram)
+  call-missed false number e = call-absent false refl .1
 
 train : TrainTelegrams
 train =
     record {
-      defined = λ κs handed answer other lasts others p q. (agree p q, refl);
+      defined = λ κs handed answer other lasts others p q. (updating-apart answer other (agree p q), refl);
       refused = λ κs (signals, (present, (telegram, _))) updated lasts p.
-          subst⁻¹ (λ u. present ≡ true → RefusedBy (trainRows (telegram .now)) Train.Refused (u .answer)) p (call-refused signals (telegram .now) present);
-      absent = λ κs (signals, (present, (telegram, _))) updated lasts p. subst⁻¹ (λ u. present ≡ false → u .answer ≡ Train.Missed) p (call-absent signals (telegram .now) present);
+          subst⁻¹ (λ (u : Updating). present ≡ true → RefusedBy (trainRows (telegram .now)) refusalUnder (u .noted)) p (call-refused signals (telegram .now) present);
+      absent = λ κs (signals, (present, (telegram, _))) updated lasts p.
+          subst⁻¹ (λ (u : Updating). present ≡ false → (u .noted ≡ absence) × (u .signals ≡ missedBy signals)) p (call-absent signals (telegram .now) present);
+      accepted = λ κs (signals, (present, (telegram, _))) updated lasts p.
+          subst⁻¹ (λ (u : Updating). present ≡ true → (u .noted ≡ acceptance) ↔ Silent (trainRows (telegram .now))) p (call-accepted signals (telegram .now) present);
       missed = λ κs (signals, (present, (telegram, _))) updated lasts p.
-          subst⁻¹ (λ u. (number : ℕ) → u .answer ≡ Train.Refused number → u .signals ≡ missedBy signals) p (call-missed signals (telegram .now) present);
+          subst⁻¹ (λ (u : Updating). (number : ℕ) → u .noted ≡ refusalUnder number → u .signals ≡ missedBy signals) p (call-missed signals (telegram .now) present);
     }
 
 train-lent : TrainTelegramsLent
 train-lent =
     record {
-      defined = λ M 𝓤 H A mem run κs handed ghost answer other lasts others. both-facts 𝓤 _ _ _ (λ p q. (agree (p .0) (q .0), ap (λ after. (after, (tt, (tt, tt)))) (agree (p .1) (q .1))));
+      defined = λ M 𝓤 H A mem run κs handed ghost answer other lasts others.
+          both-facts 𝓤 _ _ _ (λ p q. (noted-apart answer other (agree (p .0) (q .0)), ap (λ after. (after, (tt, (tt, tt)))) (agree (p .1) (q .1))));
       refused = λ M 𝓤 H A mem run κs (held, (present, (telegram, _))) ghost answer lasts.
-          fact-mono 𝓤 _ _ (λ p. subst⁻¹ (λ a. present ≡ true → RefusedBy (trainRows (telegram .now)) Train.Refused a) (p .0) (call-refused (held .now) (telegram .now) present));
+          fact-mono 𝓤 _ _ (λ p. subst⁻¹ (λ a. present ≡ true → RefusedBy (trainRows (telegram .now)) refusalUnder a) (p .0) (call-refused (held .now) (telegram .now) present));
       absent = λ M 𝓤 H A mem run κs (held, (present, (telegram, _))) ghost answer lasts.
-          fact-mono 𝓤 _ _ (λ p none. p .0 ∙ call-absent (held .now) (telegram .now) present none);
+          fact-mono 𝓤 _ _ (λ p none. given (call-absent (held .now) (telegram .now) present none) (λ (noted, record-after). (p .0 ∙ noted, p .1 ∙ record-after)));
+      accepted = λ M 𝓤 H A mem run κs (held, (present, (telegram, _))) ghost answer lasts.
+          fact-mono 𝓤 _ _ (λ p. subst⁻¹ (λ a. present ≡ true → (a ≡ acceptance) ↔ Silent (trainRows (telegram .now))) (p .0) (call-accepted (held .now) (telegram .now) present));
       missed = λ M 𝓤 H A mem run κs (held, (present, (telegram, _))) ghost answer lasts.
           fact-mono 𝓤 _ _ (λ p number e. p .1 ∙ call-missed (held .now) (telegram .now) present number (sym (p .0) ∙ e));
     }

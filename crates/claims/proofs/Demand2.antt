@@ -2,9 +2,10 @@
 use Prim.Native.Nat.{ℕ, _<_}
 use mathlib.Core.Path.{_≡_, refl, sym, ap, _∙_, subst⁻¹}
 use mathlib.Core.Bool.{Bool, true, false, cond}
-use mathlib.Core.List.{List}
+use mathlib.Core.List.{List, [], _∷_}
+use mathlib.Core.Logic.{_⊎_}
+use contract.Monad.{fact-mono}
 use lib.ListN.{length, getD}
-use native.Mathlib.Omega.{arith}
 use Rattle.kit.specs.Bytes.{Bytes}
 use Rattle.kit.proofs.Cases.{given}
 use Rattle.wire.specs.Distances.{InRange, distanceWord}
@@ -27,15 +28,15 @@ use Rattle.desk.proofs.Tables.{packet-sendable, packet-read}
 use Rattle.listener.specs.Listeners.{carries}
 use Rattle.listener.proofs.Valid.{picture-valid}
 use Rattle.train_telegram.specs.Readings.{Shows}
+use Rattle.train_telegram.specs.States.{silent}
+use Rattle.signals.specs.Answers.{acceptance, Updating}
+use Rattle.signals.specs.Histories.{Call, updatedAll, LastAccepted}
 use Rattle.signals.specs.Signals.{updateOf}
 use Rattle.signals.specs.declared.Signals.{Signals}
-use Rattle.signals.specs.declared.Answer.the-variants as Train
+use Rattle.signals.proofs.Answers.{absence-no-acceptance}
 use Rattle.signals.proofs.History.{shown-from}
 use Rattle.signals.proofs.Promises as train-promises
-use Rattle.claims.specs.Demand2.{Codes, AsDocument01Says, ReadBack, Valid, Demand2}
-
-missed-or-accepted : Train.Missed ≡ Train.Accepted → ⊥
-missed-or-accepted e = let z : _≡_ {A = ℕ} 0 1 = cc in absurd (omega arith)
+use Rattle.claims.specs.Demand2.{Codes, AsDocument01Says, ReadBack, recordAfter, TheSignalReader, Valid, Demand2}
 
 -- ---- writing and reading
 
@@ -69,10 +70,10 @@ read-codes bytes accepted =
     })
 
 -- an accepted call had a telegram, and the record shows it
-call-shows : (signals : Signals) (telegram : List ℕ) (present : Bool) → updateOf signals present telegram .answer ≡ Train.Accepted
+call-shows : (signals : Signals) (telegram : List ℕ) (present : Bool) → updateOf signals present telegram .noted ≡ acceptance
     → Shows (updateOf signals present telegram .signals .states) telegram
 call-shows signals telegram true accepted = train-promises.accepted-shows signals telegram accepted
-call-shows signals telegram false accepted = absurd (missed-or-accepted (sym (ap (λ u. u .answer) (train-promises.absent-misses signals telegram)) ∙ accepted))
+call-shows signals telegram false accepted = absurd (absence-no-acceptance (sym (ap (λ (u : Updating). u .noted) (train-promises.absent-misses signals telegram)) ∙ accepted))
 
 coded : AsDocument01Says
 coded =
@@ -81,7 +82,10 @@ coded =
           subst⁻¹ (λ bytes. Codes (λ c. c) bytes (telegramOf desk packet)) (p .1) (written-codes desk packet (buffer .now) made (sym (p .0) ∙ accepted));
       read = λ κs (bytes, _) reading lasts p. subst⁻¹ (λ r. r .verdict ≡ Accepted → Codes settled (bytes .now) (r .telegram)) p (read-codes (bytes .now));
       distances = λ κs (word, _) distance lasts p. subst⁻¹ (λ d. word < 0x10000 → InRange d × (distanceWord d ≡ word)) p (word-said word);
-      signals = λ κs (signals, (present, (telegram, _))) updated lasts p. subst⁻¹ (λ u. u .answer ≡ Train.Accepted → Shows (u .signals .states) (telegram .now)) p (call-shows signals (telegram .now) present);
+      signals = λ κs (signals, (present, (telegram, _))) updated lasts p.
+          subst⁻¹ (λ (u : Updating). u .noted ≡ acceptance → Shows (u .signals .states) (telegram .now)) p (call-shows signals (telegram .now) present);
+      signals-lent = λ M 𝓤 H A mem run κs (held, (present, (telegram, _))) ghost answer lasts.
+          fact-mono 𝓤 _ _ (λ p accepted. subst⁻¹ (λ (s : Signals). Shows (s .states) (telegram .now)) (p .1) (call-shows (held .now) (telegram .now) present (sym (p .0) ∙ accepted)));
     }
 
 -- what was written of a desk is read as it was
@@ -115,13 +119,32 @@ read-back =
 
 -- ---- what is shown
 
+-- the record of the page is the one that the functions make
+reader : TheSignalReader
+unfolding recordAfter
+reader =
+    record {
+      fresh-signals = λ κs handed signals lasts p. p;
+      updates = λ earlier κs (signals, (present, (telegram, _))) updated lasts p before.
+          ap (λ (u : Updating). u .signals) p ∙ ap (λ (s : Signals). updateOf s present (telegram .now) .signals) before;
+      updates-lent = λ earlier M 𝓤 H A mem run κs (held, (present, (telegram, _))) ghost answer lasts.
+          fact-mono 𝓤 _ _ (λ p before. p .1 ∙ ap (λ (s : Signals). updateOf s present (telegram .now) .signals) before);
+    }
+
+-- and it is the one whose history is known
+same-record : (calls : List Call) → recordAfter calls ≡ updatedAll calls
+unfolding recordAfter updatedAll
+same-record [] = refl
+same-record ((present, telegram) ∷ earlier) = ap (λ (s : Signals). updateOf s present telegram .signals) (same-record earlier)
+
 valid : Valid
 valid =
     record {
       read = λ κs (bytes, _) reading lasts p. subst⁻¹ (λ r. (k : ℕ) → Held (slotOn (r .telegram) k)) p (never-invalid (bytes .now));
       picture = picture-valid carries;
-      signals = shown-from;
+      signals = λ calls.
+          subst⁻¹ (λ (s : Signals). (s .states ≡ silent) ⊎ ((t : List ℕ) × LastAccepted calls t × Shows (s .states) t)) (same-record calls) (shown-from calls);
     }
 
 pub demand2 : Demand2
-demand2 = record { coded = coded; read-back = read-back; valid = valid }
+demand2 = record { coded = coded; read-back = read-back; reader = reader; valid = valid }

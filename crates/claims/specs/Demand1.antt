@@ -13,17 +13,17 @@ use mathlib.Core.Bool.{Bool, true, false}
 use mathlib.Core.List.{List}
 use lib.ListN.{length}
 use Rattle.hand.specs.Sets.{begun}
+use Rattle.signals.specs.Answers.{acceptance, absence, refusalUnder, notedOf}
 use Rattle.signals.specs.Signals.{missedBy}
 use Rattle.kit.specs.Asserted as Asserted
 use Rattle.kit.specs.Contracts.{OneAnswer}
-use Rattle.kit.specs.Ladder.{Decides}
+use Rattle.kit.specs.Ladder.{Decides, Silent}
 use Rattle.wire.specs.declared.verdicts.Verdict.the-variants.{Refused}
 use Rattle.telegram.specs.Telegrams.{readRows, writeRows}
 use Rattle.orders.specs.Orders.{listRows}
 use Rattle.listener.specs.Listeners.{holding, hearRows}
 use Rattle.listener.specs.declared.Answer.the-variants as Heard
 use Rattle.train_codes.specs.Refusals.{trainRows}
-use Rattle.signals.specs.declared.Answer.the-variants as Train
 use Rattle.desk.proofs.Desk.accept as accept
 use Rattle.desk_writer.proofs.write as write
 use Rattle.telegram_reader.proofs.read as read
@@ -64,17 +64,20 @@ pub record Telegrams : Type 0 where
 pub record TrainTelegrams : Type 0 where
   -- M-1b, M-1d, R-10, R-16, R-17, R-22: a telegram is refused under the number of document 01; S-14: a call with none is not refused
   pub defined : OneAnswer update.ended update.Reads.Learnt
-  pub refused : OfUpdate (λ signals present telegram updated. present ≡ true → RefusedBy (trainRows telegram) Train.Refused (updated .answer))
-  pub absent : OfUpdate (λ signals present telegram updated. present ≡ false → updated .answer ≡ Train.Missed)
+  pub refused : OfUpdate (λ signals present telegram updated. present ≡ true → RefusedBy (trainRows telegram) refusalUnder (notedOf (updated .answer)))
+  pub absent : OfUpdate (λ signals present telegram updated. present ≡ false → (notedOf (updated .answer) ≡ absence) × (updated .signals ≡ missedBy signals))
+  -- R-23: and it is accepted when no row holds, and never else
+  pub accepted : OfUpdate (λ signals present telegram updated. present ≡ true → (notedOf (updated .answer) ≡ acceptance) ↔ Silent (trainRows telegram))
   -- M-1f, S-13, S-20, R-24: a refused one is a miss, and changes nothing else
-  pub missed : OfUpdate (λ signals present telegram updated. (number : ℕ) → updated .answer ≡ Train.Refused number → updated .signals ≡ missedBy signals)
+  pub missed : OfUpdate (λ signals present telegram updated. (number : ℕ) → notedOf (updated .answer) ≡ refusalUnder number → updated .signals ≡ missedBy signals)
 
 -- S-01: the same where the record is: `signals_in_place::update(held, present, telegram)`
 pub record TrainTelegramsLent : Type 2 where
   pub defined : Asserted.OneAnswer update-lent.ended (λ M 𝓤. update-lent.clauses 𝓤)
-  pub refused : OfUpdateLent (λ signals present telegram answer after. present ≡ true → RefusedBy (trainRows telegram) Train.Refused answer)
-  pub absent : OfUpdateLent (λ signals present telegram answer after. present ≡ false → answer ≡ Train.Missed)
-  pub missed : OfUpdateLent (λ signals present telegram answer after. (number : ℕ) → answer ≡ Train.Refused number → after ≡ missedBy signals)
+  pub refused : OfUpdateLent (λ signals present telegram answer after. present ≡ true → RefusedBy (trainRows telegram) refusalUnder (notedOf answer))
+  pub absent : OfUpdateLent (λ signals present telegram answer after. present ≡ false → (notedOf answer ≡ absence) × (after ≡ missedBy signals))
+  pub accepted : OfUpdateLent (λ signals present telegram answer after. present ≡ true → (notedOf answer ≡ acceptance) ↔ Silent (trainRows telegram))
+  pub missed : OfUpdateLent (λ signals present telegram answer after. (number : ℕ) → notedOf answer ≡ refusalUnder number → after ≡ missedBy signals)
 
 -- ---- "buffer and packet number": `desk_writer::write(desk, packet, buffer)`
 

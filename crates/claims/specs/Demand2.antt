@@ -11,7 +11,7 @@ use Prim.Native.Nat.{ℕ, _+_, _/_, _%_, _<_}
 use mathlib.Core.Path.{_≡_}
 use mathlib.Core.Logic.{_⊎_}
 use mathlib.Core.Bool.{cond}
-use mathlib.Core.List.{List}
+use mathlib.Core.List.{List, [], _∷_}
 use lib.ListN.{length, getD}
 use Rattle.kit.specs.Bytes.{Bytes}
 use Rattle.wire.specs.Distances.{InRange, distanceWord}
@@ -26,9 +26,11 @@ use Rattle.desk.specs.Desks.{Made, telegramOf}
 use Rattle.listener.specs.Listeners.{carries, heardAll}
 use Rattle.train_telegram.specs.Readings.{Shows}
 use Rattle.train_telegram.specs.States.{silent}
-use Rattle.signals.specs.Histories.{Call, updatedAll, LastAccepted}
-use Rattle.signals.specs.declared.Answer.the-variants as Train
-use Rattle.claims.specs.Functions.{OfDistance, OfRead, OfWriteTelegram, OfTable, OfWrite, OfUpdate}
+use Rattle.signals.specs.Answers.{acceptance, notedOf}
+use Rattle.signals.specs.Histories.{Call, LastAccepted}
+use Rattle.signals.specs.Signals.{freshSignals, updateOf}
+use Rattle.signals.specs.declared.Signals.{Signals}
+use Rattle.claims.specs.Functions.{OfDistance, OfRead, OfWriteTelegram, OfTable, OfWrite, OfFreshSignals, OfUpdate, OfUpdateLent}
 
 -- ---- "Conditions, written and read, and signals, read, are coded as SUBSET-119 issue 4.0.0 and our fleet binding in document 01 say."
 
@@ -40,15 +42,16 @@ pub record Codes (taken : Coded → Coded) (bytes : List ℕ) (t : Telegram) : T
   pub step : stepIn bytes ≡ t .step
   pub places : (k : ℕ) → k < 4 → taken (codedAt bytes k) ≡ codedOf (slotOn t k)
 
-pub record AsDocument01Says : Type 0 where
+pub record AsDocument01Says : Type 2 where
   -- M-2a: what a desk writes codes its telegram
   pub written : OfWrite (λ desk packet buffer verdict after. Made desk → verdict ≡ Accepted → Codes (λ c. c) after (telegramOf desk packet))
   -- M-2b: what is read from bytes is the telegram that they code, a second word that is not considered taken as zero (K-11)
   pub read : OfRead (λ bytes reading. reading .verdict ≡ Accepted → Codes settled bytes (reading .telegram))
   -- K-06, K-07: a word of 16 bits is metres from -32,767 to 32,767 or no value, and each of these is one word
   pub distances : OfDistance (λ word distance. word < 0x10000 → InRange distance × (distanceWord distance ≡ word))
-  -- M-2c: each signal has the state whose code stands in its own bits
-  pub signals : OfUpdate (λ signals present telegram updated. updated .answer ≡ Train.Accepted → Shows (updated .signals .states) telegram)
+  -- M-2c: each signal has the state whose code stands in its own bits; S-01: of the record that is lent, too
+  pub signals : OfUpdate (λ signals present telegram updated. notedOf (updated .answer) ≡ acceptance → Shows (updated .signals .states) telegram)
+  pub signals-lent : OfUpdateLent (λ signals present telegram answer after. notedOf answer ≡ acceptance → Shows (after .states) telegram)
 
 -- ---- "Reading a written table gives that table."
 
@@ -65,17 +68,30 @@ pub record ReadBack : Type 0 where
 
 -- ---- "An invalid code never shows as a valid state."
 
+-- S-17, R-26: the record after these calls, the newest first
+unfoldable pub recordAfter : List Call → Signals
+recordAfter [] = freshSignals
+recordAfter ((present, telegram) ∷ earlier) = updateOf (recordAfter earlier) present telegram .signals
+
+-- C-08: that record is the public functions': a fresh one is what the maker gives, and each call makes the next of the one before it,
+-- whether the record is handed over or lent
+pub record TheSignalReader : Type 2 where
+  pub fresh-signals : OfFreshSignals (λ signals. signals ≡ recordAfter [])
+  pub updates : (earlier : List Call) → OfUpdate (λ signals present telegram updated. signals ≡ recordAfter earlier → updated .signals ≡ recordAfter ((present, telegram) ∷ earlier))
+  pub updates-lent : (earlier : List Call) → OfUpdateLent (λ signals present telegram answer after. signals ≡ recordAfter earlier → after ≡ recordAfter ((present, telegram) ∷ earlier))
+
 pub record Valid : Type 0 where
   -- M-2e: whatever the bytes, a slot that is read has a type, a country, a voltage and a limit of the table of conditions
   pub read : OfRead (λ bytes reading. (k : ℕ) → Held (slotOn (reading .telegram) k))
   -- M-2e: and so has each slot of the picture, whatever was heard
   pub picture : (telegrams : List (List ℕ)) (i : ℕ) → Held (tableSlot (heardAll carries telegrams .picture) i)
   -- M-2e, S-12: whatever the calls were, the signals are silent, or each has the state whose code the last accepted telegram has for it
-  pub signals : (calls : List Call) → (updatedAll calls .states ≡ silent) ⊎ ((t : List ℕ) × LastAccepted calls t × Shows (updatedAll calls .states) t)
+  pub signals : (calls : List Call) → (recordAfter calls .states ≡ silent) ⊎ ((t : List ℕ) × LastAccepted calls t × Shows (recordAfter calls .states) t)
 
 -- ---- the demand
 
-pub record Demand2 : Type 0 where
+pub record Demand2 : Type 2 where
   pub coded : AsDocument01Says
   pub read-back : ReadBack
+  pub reader : TheSignalReader
   pub valid : Valid

@@ -26,6 +26,7 @@ use Rattle.desk_writer.proofs.write as write
 use Rattle.desk.proofs.Desk.fresh as fresh-desk
 use Rattle.listener.proofs.Listener.fresh as fresh-listener
 use Rattle.listener.proofs.Listener.hear as hear
+use Rattle.signals.proofs.Signals.fresh as fresh-signals
 use Rattle.signals.proofs.Signals.update as update
 use Rattle.signals_in_place.proofs.update as update-lent
 
@@ -64,6 +65,10 @@ OfFreshListener Such = Promised fresh-listener.ended fresh-listener.Reads.Learnt
 -- `Listener::hear(listener, telegram)`
 abbrev pub OfHear : (Listener → List ℕ → Heard → Type 0) → Type 0
 OfHear Such = Promised hear.ended hear.Reads.Learnt (λ κs (listener, (telegram, _)) heard lasts. Such listener (telegram .now) heard)
+
+-- `Signals::fresh()`
+abbrev pub OfFreshSignals : (Signals → Type 0) → Type 0
+OfFreshSignals Such = Promised fresh-signals.ended fresh-signals.Reads.Learnt (λ κs _ signals lasts. Such signals)
 
 -- `Signals::update(signals, present, telegram)`
 abbrev pub OfUpdate : (Signals → Bool → List ℕ → Updated → Type 0) → Type 0

@@ -8,6 +8,7 @@ use Rattle.claims.proofs.Demand1.{demand1}
 use Rattle.train_codes.proofs as train-codes
 use Rattle.train_telegram.proofs as train-telegram
 use Rattle.signals.proofs as signals
+use Rattle.signals.proofs.Answers.{updating-apart}
 use Rattle.signals_in_place.proofs as signals-in-place
 use Rattle.signals_output.proofs as signals-output
 use Rattle.signal_runs.proofs as signal-runs
@@ -40,7 +41,7 @@ pub signals-fresh : OneAnswer signals.Signals.fresh.ended signals.Signals.fresh.
 signals-fresh κs handed answer other lasts others p q = (agree p q, refl)
 
 pub signals-update : OneAnswer signals.Signals.update.ended signals.Signals.update.Reads.Learnt
-signals-update κs handed answer other lasts others p q = (agree p q, refl)
+signals-update κs handed answer other lasts others p q = (updating-apart answer other (agree p q), refl)
 
 -- ---- signals_in_place
 
@@ -48,7 +49,7 @@ pub signals-in-place-update : Asserted.OneAnswer signals-in-place.update.ended (
 signals-in-place-update = demand1 .train-lent .defined
 
 pub signals-in-place-lend-and-update : OneAnswer signals-in-place.lend_and_update.ended signals-in-place.lend_and_update.Reads.Learnt
-signals-in-place-lend-and-update κs handed answer other lasts others p q = (agree p q, refl)
+signals-in-place-lend-and-update κs handed answer other lasts others p q = (updating-apart answer other (agree p q), refl)
 
 -- ---- signals_output
 

@@ -27,9 +27,8 @@ use Rattle.train_codes.specs.declared.Cab.the-variants as Cab′
 use Rattle.train_codes.specs.declared.Isolation.the-variants.{Isolated, NotIsolated}
 use Rattle.train_telegram.specs.declared.states.National.{National}
 use Rattle.train_codes.specs.declared.Traction.the-variants.{Supported}
+use Rattle.signals.specs.Answers.{acceptance, Updating}
 use Rattle.signals.specs.Signals.{signalsWith, freshSignals, updateOf}
-use Rattle.signals.specs.declared.Answer.the-variants as Answer′
-use Rattle.signals.specs.declared.Updated.{Updated}
 
 -- ---- lists of orders, all of type 1
 
@@ -118,13 +117,13 @@ refuses number = record { verdict = Refused number; telegram = blank }
 -- ---- telegrams from the train
 
 -- the answer to a telegram from the train, and the record after it, of a fresh record
-unfoldable pub received : List ℕ → Updated
+unfoldable pub received : List ℕ → Updating
 received telegram = updateOf freshSignals true telegram
 
 -- accepted, with these states
-unfoldable pub showing : Cab → Brake → List National → ℕ → Updated
+unfoldable pub showing : Cab → Brake → List National → ℕ → Updating
 showing cab brake national systems =
-    record { answer = Answer′.Accepted; signals = signalsWith (record { cab = cab; brake = brake; national = national; traction = Supported systems }) 0 }
+    record { noted = acceptance; signals = signalsWith (record { cab = cab; brake = brake; national = national; traction = Supported systems }) 0 }
 
 abbrev pub isolated : National
 isolated = systemWith Isolated
@@ -140,7 +139,7 @@ pub data Row : Type 0 where
   numbers-are : List ℕ → List ℕ → Row
   readings-are : Reading → Reading → Row
   slots-are : Slot → Slot → Row
-  signals-are : Updated → Updated → Row
+  signals-are : Updating → Updating → Row
 
 -- P5 after the wrap (A-05): number 1 ended in step 2, and in step 8,197 it is given
 abbrev pub p5-wrap : Row

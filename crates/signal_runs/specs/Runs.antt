@@ -4,9 +4,9 @@ use mathlib.Core.Bool.{not}
 use mathlib.Core.List.{List, [], _∷_, _++_}
 use lib.Dec.{eqb}
 use Rattle.frames.specs.Frames.{Call, callsOf, shortTail}
+use Rattle.signals.specs.Answers.{Updating}
 use Rattle.signals.specs.Signals.{freshSignals, updateOf}
 use Rattle.signals.specs.declared.Signals.{Signals}
-use Rattle.signals.specs.declared.Updated.{Updated}
 use Rattle.signals_output.specs.Lines.{lineOf, shortLine}
 
 -- the length of a call with no telegram; nothing follows it
@@ -14,7 +14,7 @@ abbrev pub noTelegram : ℕ
 noTelegram = 0xFFFF
 
 -- S-13, S-14: the answer to a call and the next record
-unfoldable pub updatedBy : Signals → Call → Updated
+unfoldable pub updatedBy : Signals → Call → Updating
 updatedBy signals (length, bytes) = updateOf signals (not (eqb length noTelegram)) bytes
 
 -- a line for each call, which finds the record as the one before it left it

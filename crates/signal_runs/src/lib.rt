@@ -15,12 +15,12 @@ struct Told {
     at: usize,
 }
 
-// One call: its line, and the next record.
+// One call: its line, and the next record. The record is lent for the call and updated where it is.
 fn tell(signals: Signals, length: u16, bytes: &[u8], lines: &mut [u8], at: usize) -> Told
     ensures { λ r. ⌜ (r .signals ≡ updatedBy signals (length, now (bytes .entry)) .signals)
         × Poured (now (lines .entry)) at (lineOf (updatedBy signals (length, now (bytes .entry)))) (now (lines .exit)) (r .at) ⌝ }
 {
-    let updated = signals.update(length != NO_TELEGRAM, bytes);
+    let updated = signals_in_place::lend_and_update(signals, length != NO_TELEGRAM, bytes);
     let next = updated.signals;
     let past = signals_output::put_line(updated, lines, at);
     Told {

@@ -15,23 +15,23 @@ use Rattle.train_telegram.specs.declared.states.States.{States}
 use Rattle.train_telegram.specs.declared.Reading.{Reading}
 use Rattle.train_telegram.proofs.Showing.{states-show}
 use Rattle.train_telegram.proofs.Refusals.{read-refused, read-accepted}
+use Rattle.signals.specs.Answers.{Updating}
 use Rattle.signals.specs.Signals.{signalsWith, freshSignals, missedBy, updateOf}
 use Rattle.signals.specs.Histories.{Call, updatedAll, isMiss, missesIn, lastSaid, standing, LastAccepted}
 use Rattle.signals.specs.declared.Signals.{Signals}
-use Rattle.signals.specs.declared.Updated.{Updated}
 use Rattle.signals.proofs.Missing.{missed-keeps, missed-silences}
 use Rattle.signals.proofs.Updating.{update-missed, update-refused, update-accepted}
 
 -- a call that is a miss, and one that is not
 miss-misses : (signals : Signals) (present : Bool) (telegram : List ℕ) → isMiss (present, telegram) ≡ true → updateOf signals present telegram .signals ≡ missedBy signals
-miss-misses signals false telegram e = ap (λ (u : Updated). u .signals) (update-missed signals telegram)
+miss-misses signals false telegram e = ap (λ (u : Updating). u .signals) (update-missed signals telegram)
 miss-misses signals true telegram e =
     on (eqb (trainRefusal telegram) 0)
     (λ z. absurd (clash e (rw z refl)))
     (λ z.
     let number : ℕ = trainRefusal telegram in
     let r : readOf telegram .verdict ≡ _ = ap (λ (x : Reading). x .verdict) (read-refused telegram number refl (eqb-false number 0 z)) in
-    ap (λ (u : Updated). u .signals) (update-refused signals telegram (readOf telegram) refl number r))
+    ap (λ (u : Updating). u .signals) (update-refused signals telegram (readOf telegram) refl number r))
 
 hit-says : (signals : Signals) (present : Bool) (telegram : List ℕ) → isMiss (present, telegram) ≡ false → updateOf signals present telegram .signals ≡ signalsWith (statesOf telegram) 0
 hit-says signals false telegram e = absurd (clash refl e)
@@ -39,7 +39,7 @@ hit-says signals true telegram e =
     on (eqb (trainRefusal telegram) 0)
     (λ z.
     let r = read-accepted telegram (trainRefusal telegram) refl (eqb-true (trainRefusal telegram) 0 z) in
-    ap (λ (u : Updated). u .signals) (update-accepted signals telegram (readOf telegram) refl (ap (λ (x : Reading). x .verdict) r))
+    ap (λ (u : Updating). u .signals) (update-accepted signals telegram (readOf telegram) refl (ap (λ (x : Reading). x .verdict) r))
     ∙ ap (λ (x : Reading). signalsWith (x .states) 0) r)
     (λ z. absurd (clash (rw z refl) e))
 

@@ -6,14 +6,13 @@ use mathlib.Core.Path.{_≡_, refl, sym, ap, _∙_}
 use Rattle.wire.specs.declared.verdicts.Verdict.the-variants.{Accepted, Refused}
 use Rattle.train_telegram.specs.Readings.{readOf}
 use Rattle.train_telegram.specs.declared.Reading.{Reading}
+use Rattle.signals.specs.Answers.{acceptance, absence, refusalUnder, Updating}
 use Rattle.signals.specs.Signals.{signalsWith, missedBy, afterReading, updateOf}
-use Rattle.signals.specs.declared.Answer.the-variants.{Accepted as accepted, Missed as missed, Refused as refused}
 use Rattle.signals.specs.declared.Signals.{Signals}
-use Rattle.signals.specs.declared.Updated.{Updated}
 
 module _ (signals : Signals) (telegram : List ℕ) where
   -- S-13, S-14
-  pub update-missed : _≡_ {A = Updated} (updateOf signals false telegram) (record { answer = missed; signals = missedBy signals })
+  pub update-missed : _≡_ {A = Updating} (updateOf signals false telegram) (record { noted = absence; signals = missedBy signals })
   unfolding updateOf
   update-missed = refl
 
@@ -23,9 +22,9 @@ module _ (signals : Signals) (telegram : List ℕ) where
     read-as = sym (ap (λ (r : Reading). afterReading signals (r .verdict) (r .states)) same)
 
     -- S-13, S-20
-    pub update-refused : (number : ℕ) → reading .verdict ≡ Refused number → _≡_ {A = Updated} (updateOf signals true telegram) (record { answer = refused number; signals = missedBy signals })
+    pub update-refused : (number : ℕ) → reading .verdict ≡ Refused number → _≡_ {A = Updating} (updateOf signals true telegram) (record { noted = refusalUnder number; signals = missedBy signals })
     update-refused number e = read-as ∙ ap (λ v. afterReading signals v (reading .states)) e
 
     -- S-12, S-19
-    pub update-accepted : reading .verdict ≡ Accepted → _≡_ {A = Updated} (updateOf signals true telegram) (record { answer = accepted; signals = signalsWith (reading .states) 0 })
+    pub update-accepted : reading .verdict ≡ Accepted → _≡_ {A = Updating} (updateOf signals true telegram) (record { noted = acceptance; signals = signalsWith (reading .states) 0 })
     update-accepted e = read-as ∙ ap (λ v. afterReading signals v (reading .states)) e

@@ -2,6 +2,7 @@
 use train_telegram::States;
 use wire::Verdict;
 ghost use mathlib.Core.Path.{_≡_};
+ghost use Rattle.signals.specs.Answers.{updatingOf};
 ghost use Rattle.signals.specs.Signals.{freshSignals, missedBy, updateOf};
 
 // At this many misses in a row every signal is silent, and the count stops.
@@ -56,7 +57,7 @@ impl Signals {
 
     // One call: with a telegram of any bytes and any length, or with none. Where none is present the bytes are not looked at.
     pub fn update(self, present: bool, telegram: &[u8]) -> Updated
-        ensures { λ r. ⌜ r ≡ updateOf self present (now (telegram .entry)) ⌝ }
+        ensures { λ r. ⌜ updatingOf r ≡ updateOf self present (now (telegram .entry)) ⌝ }
     {
         if !present {
             return Updated {

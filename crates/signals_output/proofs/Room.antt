@@ -1,5 +1,5 @@
 -- Every line has room in 256 bytes, so that the program's buffer cuts none off.
-use Prim.Native.Nat.{_+_, _<_, _≤_}
+use Prim.Native.Nat.{ℕ, _+_, _<_, _≤_}
 use mathlib.Core.List.{[], _∷_, _++_}
 use lib.ListN.{length, length-append, getD}
 use native.Mathlib.Omega.{arith}
@@ -13,16 +13,13 @@ use Rattle.state_words.proofs.Length.{cab-short, brake-short, isolation-short, 
 use Rattle.train_telegram.specs.States.{systemWith}
 use Rattle.train_codes.specs.declared.Isolation.the-variants as Isolation′
 use Rattle.train_telegram.specs.declared.states.States.{States}
-use Rattle.signals.specs.Signals.{numberOf}
-use Rattle.signals.specs.declared.Answer.{Answer}
-use Rattle.signals.specs.declared.Answer.the-variants.{Accepted, Missed, Refused}
-use Rattle.signals.specs.declared.Updated.{Updated}
-use Rattle.signals_output.specs.Lines.{answerWords, missesWord, systemWord, stateWords, lineOf}
+use Rattle.signals.specs.Answers.{Receipt, was-accepted, was-missed, was-refused, Updating}
+use Rattle.signals_output.specs.Lines.{receiptWords, answerWords, missesWord, systemWord, stateWords, lineOf}
 
-answer-short : (answer : Answer) → numberOf answer < 256 → length (answerWords answer) ≤ 11
-answer-short Accepted p = omega arith
-answer-short Missed p = omega arith
-answer-short (Refused number) p = omega (arith, length-append refusedWord (decimal number), decimal-byte number p)
+answer-short : (receipt : Receipt) (number : ℕ) → number < 256 → length (receiptWords receipt number) ≤ 11
+answer-short was-accepted number p = omega arith
+answer-short was-missed number p = omega arith
+answer-short was-refused number p = omega (arith, length-append refusedWord (decimal number), decimal-byte number p)
 
 states-short : (states : States) → length (stateWords states) ≤ 237
 unfolding stateWords
@@ -39,15 +36,15 @@ states-short states =
       traction-short (states .traction),
     )
 
-pub line-short : (updated : Updated) → numberOf (updated .answer) < 256 → updated .signals .misses < 256 → length (lineOf updated) ≤ 256
+pub line-short : (updating : Updating) → updating .noted .number < 256 → updating .signals .misses < 256 → length (lineOf updating) ≤ 256
 unfolding lineOf
-line-short updated number misses =
+line-short updating number misses =
     omega (
       arith,
-      length-append (answerWords (updated .answer)) (missesWord (updated .signals .misses) ++ (stateWords (updated .signals .states) ++ (10 ∷ []))),
-      length-append (missesWord (updated .signals .misses)) (stateWords (updated .signals .states) ++ (10 ∷ [])),
-      length-append (stateWords (updated .signals .states)) (10 ∷ []),
-      answer-short (updated .answer) number,
-      decimal-byte (updated .signals .misses) misses,
-      states-short (updated .signals .states),
+      length-append (answerWords (updating .noted)) (missesWord (updating .signals .misses) ++ (stateWords (updating .signals .states) ++ (10 ∷ []))),
+      length-append (missesWord (updating .signals .misses)) (stateWords (updating .signals .states) ++ (10 ∷ [])),
+      length-append (stateWords (updating .signals .states)) (10 ∷ []),
+      answer-short (updating .noted .receipt) (updating .noted .number) number,
+      decimal-byte (updating .signals .misses) misses,
+      states-short (updating .signals .states),
     )

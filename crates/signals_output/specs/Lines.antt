@@ -10,9 +10,7 @@ use Rattle.train_telegram.specs.States.{systemWith}
 use Rattle.train_codes.specs.declared.Isolation.the-variants as Isolation′
 use Rattle.train_telegram.specs.declared.states.National.{National}
 use Rattle.train_telegram.specs.declared.states.States.{States}
-use Rattle.signals.specs.declared.Answer.{Answer}
-use Rattle.signals.specs.declared.Answer.the-variants.{Accepted, Missed, Refused}
-use Rattle.signals.specs.declared.Updated.{Updated}
+use Rattle.signals.specs.Answers.{Receipt, was-accepted, was-missed, was-refused, Noted, Updating}
 
 -- "accepted"
 abbrev pub accepted : List ℕ
@@ -25,10 +23,13 @@ missed = 109 ∷ 105 ∷ 115 ∷ 115 ∷ 101 ∷ 100 ∷ []
 -- ---- the line
 
 -- S-13, S-14: the answer: `accepted`, `missed` or `refused N`
-abbrev pub answerWords : Answer → List ℕ
-answerWords Accepted = accepted
-answerWords Missed = missed
-answerWords (Refused number) = refusedWord ++ decimal number
+abbrev pub receiptWords : Receipt → ℕ → List ℕ
+receiptWords was-accepted number = accepted
+receiptWords was-missed number = missed
+receiptWords was-refused number = refusedWord ++ decimal number
+
+abbrev pub answerWords : Noted → List ℕ
+answerWords noted = receiptWords (noted .receipt) (noted .number)
 
 -- S-18: the miss count
 abbrev pub missesWord : ℕ → List ℕ
@@ -47,8 +48,8 @@ stateWords states =
     ++ tractionWord (states .traction)))
 
 -- the answer, the miss count, the states, and a line feed
-unfoldable pub lineOf : Updated → List ℕ
-lineOf updated = answerWords (updated .answer) ++ (missesWord (updated .signals .misses) ++ (stateWords (updated .signals .states) ++ (10 ∷ [])))
+unfoldable pub lineOf : Updating → List ℕ
+lineOf updating = answerWords (updating .noted) ++ (missesWord (updating .signals .misses) ++ (stateWords (updating .signals .states) ++ (10 ∷ [])))
 
 -- "short call" and a line feed
 unfoldable pub shortLine : List ℕ

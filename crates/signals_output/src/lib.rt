@@ -10,6 +10,7 @@ ghost use Prim.Native.Nat.{_+_, _≤_};
 ghost use Rattle.kit.specs.Put.{Poured};
 ghost use Rattle.page.specs.Pages.{Paged};
 ghost use Rattle.kit.specs.Each.{each};
+ghost use Rattle.signals.specs.Answers.{notedOf, updatingOf};
 ghost use Rattle.signals_output.specs.Lines.{answerWords, missesWord, systemWord, stateWords, lineOf, shortLine};
 
 // Each word after the first has a blank before it.
@@ -19,7 +20,7 @@ const LINE_FEED: u8 = 10;
 
 fn put_answer(answer: Answer, page: &mut [u8], at: usize) -> usize
     requires { ⌜ at + 16 ≤ length (now page) ⌝ }
-    ensures { λ r. ⌜ Paged 13 (now (page .entry)) at (answerWords answer) (now (page .exit)) r ⌝ }
+    ensures { λ r. ⌜ Paged 13 (now (page .entry)) at (answerWords (notedOf answer)) (now (page .exit)) r ⌝ }
 {
     match answer {
         Answer::Accepted => page::put_short_text(page, at, b"accepted"),
@@ -71,7 +72,7 @@ fn put_states(states: States, page: &mut [u8], at: usize) -> usize
 
 // The answer to a call and the record after it, made on a page and copied from it.
 pub fn put_line(updated: Updated, line: &mut [u8], at: usize) -> usize
-    ensures { λ r. ⌜ Poured (now (line .entry)) at (lineOf updated) (now (line .exit)) r ⌝ }
+    ensures { λ r. ⌜ Poured (now (line .entry)) at (lineOf (updatingOf updated)) (now (line .exit)) r ⌝ }
 {
     let answer = updated.answer;
     let signals = updated.signals;

@@ -1,6 +1,6 @@
 -- `take`: the next record, whatever was shown.
 use mathlib.Core.Path.{ap}
-use Rattle.signals.specs.declared.Updated.{Updated}
+use Rattle.signals.specs.Answers.{Updating}
 use borrow.Author.Needs.{needs}
 use Rattle.read_signals.proofs.take.Statement.{statement}
 use Rattle.read_signals.proofs.take.Tie as tie
@@ -12,7 +12,7 @@ show-line-requires : tie.Need-show-line-requires
 show-line-requires c κs = search needs
 
 returns : tie.Need-returns
-returns c = ap (λ (u : Updated). u .signals) (c .before .before .lend-and-update .ensures)
+returns c = ap (λ (u : Updating). u .signals) (c .before .before .lend-and-update .ensures)
 
 pub take-spec : {M : Type 1} → statement M
 take-spec = tie.close (tie.spec lend-and-update-requires show-line-requires returns)

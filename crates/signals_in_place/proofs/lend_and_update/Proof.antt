@@ -44,6 +44,7 @@ use denote.Triple.Spec.{Meets, tripleOf}
 use denote.Triple.Table.{entered, cited}
 use denote.Triple.Walked.{says, Stays, stay-none, stay-none-slice, walkOf, goes-none, goes-none-slice, Walks, ends-at, walked, walk-meets}
 use denote.Exit.{yes}
+use Rattle.signals.specs.Answers.{notedOf, Updating}
 use Rattle.signals.specs.Signals.{updateOf}
 use Rattle.signals.specs.declared.Signals.{Signals}
 use Rattle.signals.specs.declared.Updated.{Updated}
@@ -97,7 +98,7 @@ module _ {M : Type 1} (𝓤 : URA M) (H : Heap 𝓤) (A : Atoms 𝓤) (W : Given
   abbrev values : List Val × (List Val × (List Val × Unit {0}))
   values = (held-values held, (vbool present ∷ [], (slice ∷ [], tt)))
 
-  abbrev next : Updated
+  abbrev next : Updating
   next = updateOf held present (telegram .now)
 
   abbrev Post : Val → SProp 𝓤
@@ -124,12 +125,12 @@ module _ {M : Type 1} (𝓤 : URA M) (H : Heap 𝓤) (A : Atoms 𝓤) (W : Given
       owned ! bool (Is bool) (bool-makes 𝓤 H A W) present _ refl $ fjoin ! $ move ! (2 ∷ 0 ∷ []) $ fjoin ! $ move ! (1 ∷ 0 ∷ []) $ join ! $ frame ! $ done !
 
   -- the exit: what is returned is the definition's
-  exits : (r : Answer) (y : Signals) → (r ≡ next .answer) × (y ≡ next .signals) → Is Held.the-row held (held-values held) → Is Both.the-row (both-of r y) (StructLaws.vals Both.the-type BothLaws.the-laws (both-of r y))
+  exits : (r : Answer) (y : Signals) → (notedOf r ≡ next .noted) × (y ≡ next .signals) → Is Held.the-row held (held-values held) → Is Both.the-row (both-of r y) (StructLaws.vals Both.the-type BothLaws.the-laws (both-of r y))
       → ent 𝓤 (⋆ 𝓤 H A ((‵ (flft κ q) ⊛ ‵ ftrue) ∷ ‵ Own ∷ [])) (Post (both-value (both-of r y)))
   exits r y e was is =
       qed W ((‵ (flft κ q) ⊛ ‵ ftrue) ∷ ‵ Own ∷ []) ∵
       suffices ! _ (ends-at 𝓤 H A here.ended stayed (here.clauses 𝓤 H A at-mem run) W (((κ, tt), (q, tt), tt, args-here, values), tt) (both-value (both-of r y)) (both-of r y) (tt, (tt, (tt, tt))) (tt, (tt, (tt, tt)))) $
-      says ! (λ i. both-of (e .0 i) (e .1 i)) $ frame ! $ nothing ! $ move ! (1 ∷ 0 ∷ []) $ fjoin ! $ owned ! bool (Is bool) (bool-makes 𝓤 H A W) present _ refl $ fjoin ! $
+      says ! (λ i. record { noted = e .0 i; signals = e .1 i }) $ frame ! $ nothing ! $ move ! (1 ∷ 0 ∷ []) $ fjoin ! $ owned ! bool (Is bool) (bool-makes 𝓤 H A W) present _ refl $ fjoin ! $
       owned ! Held.the-row (Is Held.the-row) (StructLaws.makes Held.the-type HeldLaws.the-plain 𝓤 H A) held _ was $ fjoin ! $ frame ! $ owned ! Both.the-row (Is Both.the-row) (StructLaws.makes Both.the-type BothLaws.the-plain 𝓤 H A) (both-of r y) _ is $ done !
 
   module _ (C : Calls 𝓤 H) (Λ : Loops 𝓤 H) (fm : FmC 𝓤 H (W .laws) C) (known : Triple 𝓤 (C place-def.name) (Place 𝓤 H A at-mem run)) where
@@ -155,8 +156,8 @@ module _ {M : Type 1} (𝓤 : URA M) (H : Heap 𝓤) (A : Atoms 𝓤) (W : Given
         calls-at ! fm (Place 𝓤 H A at-mem run) known (to ν l₄ δ) (and-then ! (load ! (from ! (stop !)) (look ! 5 refl)) (and-then ! (load ! (from ! (stop !)) (look ! 12 refl)) (and-then ! (load ! (from ! (stop !)) (look ! 10 refl)) (no-more !)))) (λ w.
         use1 W (later (some (λ (r : Answer). ((‵ (flft (ν ∷ []) fullShare) ⊛ ‵ (flft κ q) ⊛ ‵ ftrue) ⊛ ‵ (Said.the-row .own r (w ∷ []))) ⊛ raw (ensured 𝓤 H A place.ended (place.clauses 𝓤 H A at-mem run) (ν ∷ [], (κ, tt)) (args l₄ δ) tt r)))) (id⊢ 𝓤 _) $ await ! tt $ pick ! (λ r.
         -- what `update` ensures, at some last record
-        split ! $ move ! (1 ∷ []) $ use1 W (some (λ (zs : Signals × (Unit {0} × (Unit {0} × Unit {0}))). ‵ (lasts place.ended (ν ∷ [], (κ, tt)) (args l₄ δ) zs) ⊛ raw (fact 𝓤 ((r ≡ next .answer) × (zs .0 ≡ next .signals))))) (id⊢ 𝓤 _) $ pick ! (λ zs.
-        split ! $ move ! (1 ∷ []) $ heard ! ((r ≡ next .answer) × (zs .0 ≡ next .signals)) (λ e. fsplit ! $ move ! (1 ∷ []) $ drop ! $ move ! (1 ∷ []) $ split ! $ move ! (1 ∷ []) $
+        split ! $ move ! (1 ∷ []) $ use1 W (some (λ (zs : Signals × (Unit {0} × (Unit {0} × Unit {0}))). ‵ (lasts place.ended (ν ∷ [], (κ, tt)) (args l₄ δ) zs) ⊛ raw (fact 𝓤 ((notedOf r ≡ next .noted) × (zs .0 ≡ next .signals))))) (id⊢ 𝓤 _) $ pick ! (λ zs.
+        split ! $ move ! (1 ∷ []) $ heard ! ((notedOf r ≡ next .noted) × (zs .0 ≡ next .signals)) (λ e. fsplit ! $ move ! (1 ∷ []) $ drop ! $ move ! (1 ∷ []) $ split ! $ move ! (1 ∷ []) $
         -- [the result; the tokens; the last value; the lender's part; the slice's; _7; …; _6; …; room for _5; …]
         peeks ! Said.the-row (Is Said.the-row) (shows 𝓤 H A Said.the-row) r (w ∷ []) (λ is.
         land ! (from ! (stop !)) (init ! 9 refl (EnumLaws.lawful Said.the-type SaidLaws.the-laws 𝓤 H A W tt .typed r _ is .0)) $ drop ! $ rewrite ! 8 (λ (z : Val). ‵ (fat fullShare SaidLaws.mir l₅ 0 z)) (ap only (EnumLaws.tells Said.the-type SaidLaws.the-laws r _ is)) refl $

@@ -44,6 +44,7 @@ use denote.Triple.Spec.{Meets, tripleOf}
 use denote.Triple.Table.{entered, cited}
 use denote.Triple.Walked.{says, Stays, stay-ref, stay-none, stay-none-slice, walkOf, goes-ref, goes-none, goes-none-slice, Walks, ends-at, walked, walk-meets}
 use denote.Exit.{yes}
+use Rattle.signals.specs.Answers.{Updating, updatingOf}
 use Rattle.signals.specs.Signals.{updateOf}
 use Rattle.signals.specs.declared.Signals.{Signals}
 use Rattle.signals.specs.declared.Updated.{Updated}
@@ -83,9 +84,6 @@ module _ {M : Type 1} (𝓤 : URA M) (H : Heap 𝓤) (A : Atoms 𝓤) (W : Given
   abbrev values : List Val × (List Val × (List Val × Unit {0}))
   values = (vptr b o ∷ [], (vbool present ∷ [], (slice ∷ [], tt)))
 
-  abbrev next : Updated
-  next = updateOf held present (telegram .now)
-
   abbrev Post : Val → SProp 𝓤
   Post = walkOf 𝓤 H A here.ended stayed (here.clauses 𝓤 H A at-mem run) .post (((κ, (κ′, tt)), (q, (q′, tt)), bounds, args-here, values), tt)
 
@@ -93,28 +91,34 @@ module _ {M : Type 1} (𝓤 : URA M) (H : Heap 𝓤) (A : Atoms 𝓤) (W : Given
   abbrev Own : Fml
   Own = ShrSlice (named 1) κ′ u8 .own telegram (slice ∷ [])
 
-  -- the call: what `update`'s triple binds outside, what it asks, and what is known of its result
+  -- the call: what it hands over, what `update`'s triple binds outside, what it asks, and what is known of its result
+  abbrev handed : Signals × (Bool × (RefT (List ℕ) × Unit {0}))
+  handed = (held, (present, (telegram, tt)))
+
   abbrev passed : Vals update.signature (κ′, tt)
-  passed = (held-values held, (vbool present ∷ [], (slice ∷ [], tt)))
+  passed = (held-values held, (vbool (handed .1 .0) ∷ [], (slice ∷ [], tt)))
 
   abbrev to : Update 𝓤 H A at-mem run .Ghost
-  to = (((κ′, tt), (q′, tt), tt, (held, (present, (telegram, tt))), passed), tt)
+  to = (((κ′, tt), (q′, tt), tt, handed, passed), tt)
+
+  abbrev next : Updating
+  next = updateOf held (handed .1 .0) (telegram .now)
 
   asked : Is Held.the-row held (held-values held) → ent 𝓤 (⋆ 𝓤 H A ((‵ (flft κ′ q′) ⊛ ‵ ftrue) ∷ ‵ Own ∷ [])) (Update 𝓤 H A at-mem run .pre to)
   asked was =
-      qed W ((‵ (flft κ′ q′) ⊛ ‵ ftrue) ∷ ‵ Own ∷ []) ∵ nothing ! $ move ! (2 ∷ 0 ∷ []) $ fjoin ! $ owned ! bool (Is bool) (bool-makes 𝓤 H A W) present _ refl $ fjoin ! $
+      qed W ((‵ (flft κ′ q′) ⊛ ‵ ftrue) ∷ ‵ Own ∷ []) ∵ nothing ! $ move ! (2 ∷ 0 ∷ []) $ fjoin ! $ owned ! bool (Is bool) (bool-makes 𝓤 H A W) (handed .1 .0) _ refl $ fjoin ! $
       owned ! Held.the-row (Is Held.the-row) (StructLaws.makes Held.the-type HeldLaws.the-plain 𝓤 H A) held _ was $ fjoin ! $ move ! (1 ∷ 0 ∷ []) $ join ! $ frame ! $ done !
 
-  said : (r : Updated) → ent 𝓤 (ensured 𝓤 H A update.ended (update.clauses 𝓤 H A at-mem run) (κ′, tt) (held, (present, (telegram, tt))) tt r) (fact 𝓤 (r ≡ next))
-  said r = exE 𝓤 _ (λ ws. snd∗ 𝓤 (sem 𝓤 H A (lasts update.ended (κ′, tt) (held, (present, (telegram, tt))) ws)) (fact 𝓤 (r ≡ next)))
+  said : (r : Updated) → ent 𝓤 (ensured 𝓤 H A update.ended (update.clauses 𝓤 H A at-mem run) (κ′, tt) handed tt r) (fact 𝓤 (updatingOf r ≡ next))
+  said r = exE 𝓤 _ (λ ws. snd∗ 𝓤 (sem 𝓤 H A (lasts update.ended (κ′, tt) handed ws)) (fact 𝓤 (updatingOf r ≡ next)))
 
   -- the exit: the answer and the record are those of the definition
-  exits : (r : Updated) → r ≡ next → Is Said.the-row (r .answer) (answer-value (r .answer) ∷ [])
+  exits : (r : Updated) → updatingOf r ≡ next → Is Said.the-row (r .answer) (answer-value (r .answer) ∷ [])
       → ent 𝓤 (⋆ 𝓤 H A (‵ (fobs γ (Held.the-row .coded .code (r .signals))) ∷ ‵ (fbor κ (Body (mem Held.the-row) b o γ)) ∷ ‵ (flft κ q) ∷ (‵ (flft κ′ q′) ⊛ ‵ ftrue) ∷ ‵ Own ∷ [])) (Post (answer-value (r .answer)))
   exits r e is =
       qed W (‵ (fobs γ (Held.the-row .coded .code (r .signals))) ∷ ‵ (fbor κ (Body (mem Held.the-row) b o γ)) ∷ ‵ (flft κ q) ∷ (‵ (flft κ′ q′) ⊛ ‵ ftrue) ∷ ‵ Own ∷ []) ∵
       suffices ! _ (ends-at 𝓤 H A here.ended stayed (here.clauses 𝓤 H A at-mem run) W (((κ, (κ′, tt)), (q, (q′, tt)), bounds, args-here, values), tt) (answer-value (r .answer)) (r .answer) (r .signals, (tt, (tt, tt))) (tt, (tt, (tt, tt)))) $
-      says ! (ap (λ (y : Updated). y .answer) e, ap (λ (y : Updated). y .signals) e) $ move ! (2 ∷ 3 ∷ []) $ join ! $
+      says ! (ap (λ (y : Updating). y .noted) e, ap (λ (y : Updating). y .signals) e) $ move ! (2 ∷ 3 ∷ []) $ join ! $
       frame ! $ feqI ! (List Val) (vptr b o ∷ []) (vptr b o ∷ []) refl $ fjoin3 ! $ nothing ! $ move ! (2 ∷ 0 ∷ []) $ fjoin ! $ owned ! bool (Is bool) (bool-makes 𝓤 H A W) present _ refl $ fjoin ! $ move ! (1 ∷ 0 ∷ []) $ fjoin ! $
       frame ! $ owned ! Said.the-row (Is Said.the-row) (EnumLaws.makes Said.the-type SaidLaws.the-plain 𝓤 H A) (r .answer) _ is $ done !
 
@@ -138,8 +142,8 @@ module _ {M : Type 1} (𝓤 : URA M) (H : Heap 𝓤) (A : Atoms 𝓤) (W : Given
         -- [what `update` asks; the slice's; the cell; the open borrow; obs; auth; _5; …]
         -- `_4 = Signals::update(_5, present, telegram)`, of which only the contract is known
         calls-at ! fm (Update 𝓤 H A at-mem run) known to (and-then ! (load ! (from ! (stop !)) (look ! 6 refl)) (and-then ! (load ! (from ! (stop !)) (look ! 12 refl)) (and-then ! (load ! (from ! (stop !)) (look ! 10 refl)) (no-more !)))) (λ u.
-        use1 W (later (some (λ (r : Updated). ((‵ (flft κ′ q′) ⊛ ‵ ftrue) ⊛ ‵ (Both.the-row .own r (u ∷ []))) ⊛ raw (ensured 𝓤 H A update.ended (update.clauses 𝓤 H A at-mem run) (κ′, tt) (held, (present, (telegram, tt))) tt r)))) (id⊢ 𝓤 _) $ await ! tt $ pick ! (λ r.
-        split ! $ move ! (1 ∷ []) $ use1 W (raw (fact 𝓤 (r ≡ next))) (said r) $ heard ! (r ≡ next) (λ e. split ! $ move ! (1 ∷ []) $
+        use1 W (later (some (λ (r : Updated). ((‵ (flft κ′ q′) ⊛ ‵ ftrue) ⊛ ‵ (Both.the-row .own r (u ∷ []))) ⊛ raw (ensured 𝓤 H A update.ended (update.clauses 𝓤 H A at-mem run) (κ′, tt) handed tt r)))) (id⊢ 𝓤 _) $ await ! tt $ pick ! (λ r.
+        split ! $ move ! (1 ∷ []) $ use1 W (raw (fact 𝓤 (updatingOf r ≡ next))) (said r) $ heard ! (updatingOf r ≡ next) (λ e. split ! $ move ! (1 ∷ []) $
         -- [the result; κ′'s token; the slice's; the cell; the open borrow; obs; auth; _5; …; room for _4; …]
         peeks ! Both.the-row (Is Both.the-row) (shows 𝓤 H A Both.the-row) r (u ∷ []) (λ is.
         land ! (from ! (stop !)) (init ! 9 refl (StructLaws.lawful Both.the-type BothLaws.the-laws 𝓤 H A W .typed r _ is .0)) $ drop ! $

@@ -1,11 +1,18 @@
 -- `put_answer`: the words of the answer that the `match` found.
+use Prim.Native.Nat.{ℕ}
+use mathlib.Core.List.{List}
 use mathlib.Core.Path.{ap}
 use native.Mathlib.Omega.{arith}
 use Rattle.page.proofs.Pages.{paged-as, paged-then, paged-most}
+use Rattle.signals.specs.Answers.{notedOf}
+use Rattle.signals.specs.declared.Answer.{Answer}
 use Rattle.signals_output.specs.Lines.{answerWords}
 use borrow.Author.Needs.{needs}
 use Rattle.signals_output.proofs.put_answer.Statement.{statement}
 use Rattle.signals_output.proofs.put_answer.Tie as tie
+
+abbrev told : Answer → List ℕ
+told answer = answerWords (notedOf answer)
 
 enum-told : tie.Need-enum-told
 enum-told c = search needs
@@ -44,13 +51,13 @@ same-length : tie.Need-same-length
 same-length c = search needs
 
 returns : tie.Need-returns
-returns c = paged-as (ap answerWords (c .before .before .before .before .before .enum-told .given .1)) (paged-most (omega arith) (c .before .before .put-short-text .ensures .paged (omega arith)))
+returns c = paged-as (ap told (c .before .before .before .before .before .enum-told .given .1)) (paged-most (omega arith) (c .before .before .put-short-text .ensures .paged (omega arith)))
 
 same-length-2 : tie.Need-same-length-2
 same-length-2 c = search needs
 
 returns-2 : tie.Need-returns-2
-returns-2 c = paged-as (ap answerWords (c .before .before .before .before .before .enum-told2 .given .1)) (paged-most (omega arith) (c .before .before .put-short-text2 .ensures .paged (omega arith)))
+returns-2 c = paged-as (ap told (c .before .before .before .before .before .enum-told2 .given .1)) (paged-most (omega arith) (c .before .before .put-short-text2 .ensures .paged (omega arith)))
 
 same-length-3 : tie.Need-same-length-3
 same-length-3 c = search needs
@@ -59,7 +66,7 @@ returns-3 : tie.Need-returns-3
 returns-3 c =
     let first = c .before .before .before .before .before .before .put-short-text3 .ensures .paged (omega arith) in
     let second = c .before .before .put-bare-number .ensures .paged (omega arith) in
-    paged-as (ap answerWords (c .before .before .before .before .before .before .before .before .before .before .answer .given .1)) (paged-then first second)
+    paged-as (ap told (c .before .before .before .before .before .before .before .before .before .before .answer .given .1)) (paged-then first second)
 
 pub put-answer-spec : {M : Type 1} → statement M
 put-answer-spec =

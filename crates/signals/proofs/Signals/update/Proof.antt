@@ -2,9 +2,9 @@
 use mathlib.Core.Bool.{Bool}
 use mathlib.Core.Path.{sym, ap, _∙_}
 use borrow.Author.Tests.{not-true, not-false}
+use Rattle.signals.specs.Answers.{absence, refusalUnder}
 use Rattle.signals.specs.Signals.{updateOf}
 use Rattle.signals.specs.declared.Signals.{Signals}
-use Rattle.signals.specs.declared.Answer.the-variants.{Missed, Refused}
 use Rattle.signals.proofs.Updating.{update-missed, update-refused, update-accepted}
 use borrow.Author.Needs.{needs}
 use Rattle.signals.proofs.Signals.update.Statement.{statement}
@@ -16,7 +16,7 @@ missed-requires c κs = search needs
 returns : tie.Need-returns
 returns c =
     let a = c .before .before .before .args in
-    ap (λ (s : Signals). record { answer = Missed; signals = s }) (c .missed .ensures)
+    ap (λ (s : Signals). record { noted = absence; signals = s }) (c .missed .ensures)
     ∙ (sym (update-missed (a .self) (a .telegram .now)) ∙ ap (λ (p : Bool). updateOf (a .self) p (a .telegram .now)) (sym (not-true (a .present) (c .before .if1 .taken))))
 
 read-requires : tie.Need-read-requires
@@ -35,7 +35,7 @@ returns-2 : tie.Need-returns-2
 returns-2 c =
     let reader = c .before .before .before .before .before in
     let a = reader .before .before .before .args in
-    ap (λ (s : Signals). record { answer = Refused (c .before .before .verdict .given .0 .0); signals = s }) (c .missed2 .ensures)
+    ap (λ (s : Signals). record { noted = refusalUnder (c .before .before .verdict .given .0 .0); signals = s }) (c .missed2 .ensures)
     ∙ (sym (update-refused (a .self) (a .telegram .now) (reader .read .result) (reader .read .ensures) _ (c .before .before .verdict .given .1))
     ∙ ap (λ (p : Bool). updateOf (a .self) p (a .telegram .now)) (sym (not-false (a .present) (reader .before .if1 .left))))
 
