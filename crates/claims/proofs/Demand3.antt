@@ -1,86 +1,53 @@
--- Demand 3 is proved: of every sequence of calls to a fresh desk and of every heard sequence that meets the premises, what the page
--- specs/Demand3.antt claims is so.
-use Prim.Native.Nat.{ℕ, _-_, _≤_}
-use mathlib.Core.Path.{_≡_, sym, ap, _∙_}
-use mathlib.Core.Logic.{_↔_}
-use mathlib.Core.Bool.{true}
+-- Demand 3 is proved: the page specs/Demand3.antt is what proofs/Ends.antt proves over any figures and binding, taken with the fleet's.
+use mathlib.Core.Path.{sym, _∙_}
 use mathlib.Core.List.{List, [], _∷_}
+use Prim.Native.Nat.{ℕ}
 use native.Mathlib.Omega.{arith}
-use Rattle.kit.proofs.Cases.{clash, given}
-use Rattle.wire.specs.declared.verdicts.Verdict.the-variants.{Accepted}
-use lib.ListN.{length}
-use Rattle.telegram.specs.Tables.{tableSlot, fourOf}
-use Rattle.telegram.specs.Telegrams.{readOf}
 use Rattle.telegram.proofs.ReadAgain.{read-again}
-use Rattle.telegram.proofs.Refusals.{packet-fills}
-use Rattle.desk.specs.Desks.{rest as eight, telegramOf}
-use Rattle.desk.proofs.Tables.{telegram-is, packet-sendable}
-use Rattle.marks.proofs.Carrying.{mark-at, carried-exactly, none-carried}
-use Rattle.listener.specs.Listeners.{carries, markAt}
-use Rattle.listener.proofs.Hearing.{fresh-unmarked}
-use Rattle.claims.specs.Calls.{deskOf, tableIn}
-use Rattle.claims.specs.Hearings.{Item, sent, wholes}
-use Rattle.claims.specs.Demand3.{Demand3, Binding, ReadsBack, bytesIn, message, Sent, Premises, pictureOf, Carried, Claim}
-use Rattle.claims.proofs.Following.{packetOf, marksFor, Falling, falling, shown, right, answered}
-use Rattle.claims.proofs.History.{sound, step-is, table-twenty, table-apart, occupied-ordered, again-stood, stood-again}
+use Rattle.telegram.proofs.Refusals.{accepted-written, packet-accepted}
+use Rattle.desk.specs.Desks.{rest as eight, telegramOf, Made, made, called}
+use Rattle.listener.specs.Listeners.{carries}
+use Rattle.claims.specs.Calls.{deskAfter}
+use Rattle.claims.specs.Hearings.{Item}
+use Rattle.claims.specs.Ends.{Claim}
+use Rattle.claims.specs.Demand3.{fleetBinding, LostOrRepeated, TheFunctions, Demand3}
+use Rattle.claims.proofs.Ends.{ReadsBack, claimed}
+use Rattle.claims.proofs.Regular.{regular}
 
-module _ (rest limit : ℕ) (enough : limit ≤ rest) (few : rest ≤ 11) {Message : Type 0} (binding : Binding Message) (back : ReadsBack binding) (calls : List (List ℕ)) where
-  -- a telegram that was sent is read as it was sent
-  read-back : (n p : ℕ) → Sent rest limit binding calls n p
-      → binding .read (message rest limit binding calls (sent n p)) ≡ record { verdict = Accepted; telegram = packetOf rest limit binding calls n p }
-  read-back n p (made, low, high, carries) =
-      let step = step-is rest few calls n made in
-      let telegram : telegramOf (deskOf rest calls n) p ≡ packetOf rest limit binding calls n p =
-      telegram-is (deskOf rest calls n) p ∙ (λ i. record { packet = p; step = step i; slots = fourOf (tableIn rest calls n) p }) in
-      back (telegramOf (deskOf rest calls n) p) (packet-sendable (sound rest few calls n) p low high) carries
-      ∙ (λ i. record { verdict = Accepted; telegram = telegram i })
+-- a desk of any calls was made by them
+calls-made : (calls : List (List ℕ)) → Made (deskAfter eight calls)
+unfolding deskAfter
+calls-made [] = made
+calls-made (list ∷ calls) = called (calls-made calls) list
 
-  -- a mark is set exactly when the condition is carried
-  marked : (whole : List ℕ) → Falling rest limit binding calls whole → (i : ℕ)
-      → (markAt (marksFor rest limit binding calls whole) i ≡ true) ↔ Carried rest limit binding calls whole i
-  marked [] f i = (λ e. clash e (fresh-unmarked i), λ none. absurd none)
-  marked (n ∷ []) f i = (
-    λ e. clash e (mark-at limit 0 (pictureOf rest limit binding calls []) (tableIn rest calls n) i ∙ none-carried limit (pictureOf rest limit binding calls []) (tableSlot (tableIn rest calls n) i)),
-    λ none. absurd none,
-  )
-  marked (n ∷ m ∷ before) (later, made, f) i =
-      let is = mark-at limit (n - m) (tableIn rest calls m) (tableIn rest calls n) i in
-      let exactly = carried-exactly (tableIn rest calls m) (tableSlot (tableIn rest calls n) i) limit (n - m) in
-      let ordered = occupied-ordered rest few calls n i in (
-        λ e.
-            given (exactly .0 (sym is ∙ e))
-            (λ (occupied, low, high, again).
-            (ordered .0 occupied, omega arith, again-stood rest few calls m n i (omega arith) (omega arith) made (ordered .0 occupied) again)),
-        λ (order, near, stood).
-            is ∙ exactly .1 (ordered .1 order, omega arith, omega arith, stood-again rest few calls m n i (omega arith) (omega arith) made order stood),
-      )
+functions : TheFunctions
+unfolding telegramOf
+functions =
+    record {
+      fresh-desk = λ κs handed desk lasts p. p;
+      accepts = λ κs handed answer lasts p. p;
+      made = calls-made;
+      writes = λ κs (desk, (packet, (buffer, _))) verdict lasts p accepted. p .1 ∙ accepted-written (telegramOf desk packet) (buffer .now) (sym (p .0) ∙ accepted);
+      writes-five = λ κs (desk, (packet, (buffer, _))) verdict lasts p low high long. p .0 ∙ packet-accepted (telegramOf desk packet) (buffer .now) low high long;
+      fresh-listener = λ κs handed listener lasts p. p;
+      hears = λ κs handed heard lasts p. p;
+    }
 
-  -- over the figures and any binding that reads back
-  pub claimed : (heard : List (Item Message)) → Premises rest limit binding calls heard → Claim rest limit binding calls heard
-  claimed heard premises =
-      let s = shown rest limit binding calls (table-twenty rest few calls) (table-apart rest few calls) read-back heard premises in
-      record {
-        picture = s .picture;
-        last = s .last;
-        carried = λ i. rw (s .marks) (marked (wholes heard) (falling rest limit binding calls heard premises) i);
-        right = right rest limit binding calls (table-twenty rest few calls) (table-apart rest few calls) read-back heard premises;
-        answered = answered rest limit binding calls (table-twenty rest few calls) (table-apart rest few calls) read-back heard premises;
-      }
+-- the fleet's bytes are read back
+bytes-back : ReadsBack fleetBinding
+bytes-back t sendable u = read-again t sendable
 
--- the fleet's bytes are read back, whatever the buffer of 26 bytes held
-pub bytes-back : (buffer : List ℕ) → length buffer ≡ 26 → ReadsBack (bytesIn buffer)
-bytes-back buffer long t sendable u = ap readOf (packet-fills t buffer (sendable .packet-from) (sendable .packet-to) long) ∙ read-again t sendable
+claim : (calls : List (List ℕ)) (heard : List (Item (List ℕ))) → LostOrRepeated calls heard → Claim eight carries fleetBinding calls heard
+claim calls = claimed eight carries (omega arith) (omega arith) fleetBinding bytes-back calls
 
 pub demand3 : Demand3
 demand3 =
     record {
-      functions =
-          record {
-            fresh-desk = λ κs handed desk lasts p. p;
-            accepts = λ κs handed answer lasts p. p;
-            writes = λ κs handed verdict lasts p. p .1;
-            fresh-listener = λ κs handed listener lasts p. p;
-            hears = λ κs handed heard lasts p. p;
-          };
-      claim = λ calls buffer long. claimed eight carries (omega arith) (omega arith) (bytesIn buffer) (bytes-back buffer long) calls;
+      functions = functions;
+      picture = λ calls heard premises. claim calls heard premises .picture;
+      carried = λ calls heard premises. claim calls heard premises .carried;
+      right = λ calls heard premises. claim calls heard premises .right;
+      last = λ calls heard premises. claim calls heard premises .last;
+      answered = λ calls heard premises. claim calls heard premises .answered;
+      met = λ calls. regular eight carries fleetBinding calls (λ t. tt);
     }

@@ -32,7 +32,7 @@ use Rattle.hand.proofs.Gathering.{Gathered, gathered-none, gathered-as, gathere
 use Rattle.listener.proofs.Hearing.{hear-refused, hear-as, heard-last, heard-copy, heard-part, heard-taken, fresh-picture, fresh-last, fresh-hand, taken-picture, taken-last, taken-marks, taken-hand}
 use Rattle.claims.specs.Calls.{stepsMade, tableIn}
 use Rattle.claims.specs.Hearings.{Item, sent, spoilt, wasHeard, isWhole, wholes, firstOr, NoneAfter, newestOr, farthest, Near}
-use Rattle.claims.specs.Demand3.{Binding, message, listenerAfter, Sent, Premises, nothing, next, late, damaged, pictureOf, lastOf, distance, PutRight, expected, Answered}
+use Rattle.claims.specs.Ends.{Binding, message, listenerAfter, Sent, Premises, nothing, next, late, damaged, pictureOf, lastOf, distance, PutRight, expected, Answered}
 use Rattle.claims.proofs.Sequences.{heard-here, heard-other, heard-above, whole-same, part-before, nothing-whole, heard-spoilt, wholes-spoilt, whole-spoilt, whole-old, whole-other, whole-apart, whole-below, packet-heard, wholes-old, wholes-part, wholes-new, newest-whole, first-below}
 
 -- two steps less than 8,192 apart have different step numbers

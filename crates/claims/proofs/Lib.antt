@@ -1,7 +1,9 @@
 pub mod Demand1
 pub mod Demand2
 pub mod Demand3
+pub mod Ends
 pub mod Following
+pub mod Functions
 pub mod History
 pub mod Regular
 pub mod Sequences

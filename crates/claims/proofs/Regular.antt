@@ -12,7 +12,7 @@ use Rattle.telegram.specs.declared.Telegram.{Telegram}
 use Rattle.desk.specs.Desks.{telegramOf}
 use Rattle.claims.specs.Calls.{stepsMade, deskOf}
 use Rattle.claims.specs.Hearings.{Item, sent, spoilt, wasHeard, wholes, firstOr, NoneAfter, newestOr, farthest}
-use Rattle.claims.specs.Demand3.{Binding, Premises, nothing, next}
+use Rattle.claims.specs.Ends.{Binding, Premises, nothing, next}
 use Rattle.claims.specs.Regular.{fiveOf, wholly, Spaced}
 use Rattle.claims.proofs.Sequences.{heard-here, heard-above, whole-known, wholes-part, wholes-new}
 

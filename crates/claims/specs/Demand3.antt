@@ -6,157 +6,117 @@
 --   from the previous whole table to this one and the same order stood in every accepted list from that one to this; a fresh desk's
 --   table counts as an empty list. However long the loss within that bound, the next whole table puts the vehicle right."
 --
--- Each stands below over what states it. The desk, its calls and the tables of its steps are in Calls.antt; what was heard, and
--- which tables were heard whole, in Hearings.antt. All is said over the two figures, which are eight and eight, and over the binding
--- that carries a telegram; the last definition is the demand itself, with the fleet's figures and bytes. proofs/Demand3.antt proves it.
-use Prim.Native.Nat.{ℕ, _+_, _-_, _%_, _≤_}
+-- It is said here of the fleet's figures, eight and eight, and of its telegrams of 26 bytes: each phrase in plain words, over what states
+-- it. The text of each definition that is named stands in one of three files: Calls.antt has the desk, its calls and the tables of its
+-- steps; Hearings.antt what was heard, and which tables were heard whole; Ends.antt both ends, phrase by phrase, over any two figures and
+-- any binding. proofs/Demand3.antt proves it.
+use Prim.Native.Nat.{ℕ, _≤_}
 use mathlib.Core.Path.{_≡_}
 use mathlib.Core.Logic.{_↔_}
-use mathlib.Core.Bool.{true, cond}
-use mathlib.Core.List.{List, [], _∷_}
-use lib.ListN.{length, replicate}
-use Rattle.condition.specs.Slots.{emptySlot, slots}
-use Rattle.wire.specs.Steps.{steps}
-use Rattle.wire.specs.Verdicts.{numberOf}
-use Rattle.condition.specs.declared.slots.Slot.{Slot}
-use Rattle.wire.specs.declared.verdicts.Verdict.the-variants.{Accepted, Refused}
-use Rattle.telegram.specs.Sendable.{Sendable}
-use Rattle.telegram.specs.Telegrams.{readOf, written}
-use Rattle.telegram.specs.declared.Reading.{Reading}
-use Rattle.telegram.specs.declared.Telegram.{Telegram}
-use Rattle.desk.specs.Desks.{rest as eight, freshWith, acceptOf, telegramOf}
-use Rattle.picture.specs.Pictures.{countOf}
+use mathlib.Core.Bool.{true}
+use mathlib.Core.List.{List, _∷_}
+use lib.ListN.{length}
+use Rattle.wire.specs.declared.verdicts.Verdict.the-variants.{Accepted}
+use Rattle.telegram.specs.Telegrams.{bytesOf, readOf}
+use Rattle.desk.specs.Desks.{rest as eight, freshWith, acceptOf, telegramOf, Made}
 use Rattle.listener.specs.Listeners.{carries, freshListener, hearOf, markAt}
-use Rattle.listener.specs.declared.Answer.{Answer}
-use Rattle.listener.specs.declared.Answer.the-variants.{Refused as refused, Repeat, Held, Taken}
-use Rattle.last_step.specs.declared.Last.{Last}
-use Rattle.last_step.specs.declared.Last.the-variants.{Never, Step}
 use Rattle.listener.specs.declared.Listener.{Listener}
-use Rattle.claims.specs.Calls.{stepsMade, deskOf, tableIn, orderIn, StoodFrom}
+use Rattle.claims.specs.Calls.{deskAfter, stepsMade}
+use Rattle.claims.specs.Ends.{Binding, listenerAfter, Premises, pictureOf, lastOf, Carried, PutRight, Answered}
 use Rattle.claims.specs.Functions.{OfFreshDesk, OfAccept, OfWrite, OfFreshListener, OfHear}
-use Rattle.claims.specs.Hearings.{Item, sent, spoilt, wasHeard, isWhole, wholes, NoneAfter, Near}
+use Rattle.claims.specs.Hearings.{Item, wholes}
+use Rattle.claims.specs.Regular.{wholly, Spaced}
 
--- M-2: a binding: how a telegram is written as a message and read from it, and which telegrams it can carry
-pub record Binding (Message : Type 0) : Type 1 where
-  pub write : Telegram → Message
-  pub read : Message → Reading
-  pub Carries : Telegram → Type 0
+-- ---- the figures and the bytes
 
--- M-2d: reading a written telegram gives that telegram
-abbrev pub ReadsBack : {Message : Type 0} → Binding Message → Type 0
-ReadsBack binding = (t : Telegram) → Sendable t → binding .Carries t → binding .read (binding .write t) ≡ record { verdict = Accepted; telegram = t }
+-- D-12, L-06: `eight` is for how many steps an ended number rests at the desk, and `carries`, eight as well, over how many steps at most
+-- the listener carries a condition. M-2a, M-2b: a telegram is sent as its 26 bytes, whatever it says, and bytes are read as the reader
+-- reads them.
+abbrev pub fleetBinding : Binding (List ℕ)
+fleetBinding = record { write = bytesOf; read = readOf; Carries = λ telegram. Unit }
 
--- the desk's figure and the listener's, the binding, and the calls of the desk, the newest first
-module _ (rest limit : ℕ) {Message : Type 0} (binding : Binding Message) (calls : List (List ℕ)) where
+-- a run: the lists that were handed to a desk, and what a listener heard of the desk's telegrams, the newest first in both
+module _ (calls : List (List ℕ)) (heard : List (Item (List ℕ))) where
   -- ---- "Start both ends fresh."
 
-  -- D-04, W-03: what is heard as packet p of step n is what the desk of that step wrote
-  abbrev pub message : Item Message → Message
-  message (sent n p) = binding .write (telegramOf (deskOf rest calls n) p)
-  message (spoilt other) = other
-
-  -- A-20, M-1b: the listener after what was heard, the newest first
-  unfoldable pub listenerAfter : List (Item Message) → Listener
-  listenerAfter [] = freshListener
-  listenerAfter (item ∷ earlier) = hearOf limit (listenerAfter earlier) (binding .read (message item)) .listener
-
-  -- M-1b: and what it answers to one telegram more
-  abbrev pub answerTo : Item Message → List (Item Message) → Answer
-  answerTo item earlier = hearOf limit (listenerAfter earlier) (binding .read (message item)) .answer
+  -- D-04, W-03, A-20: the vehicle's listener was fresh, and then became with each telegram what `hear` makes of it. `sent n p` is heard as
+  -- the 26 bytes of packet p of the desk of step n; that desk was fresh, and then became with each call what `accept` makes of it.
+  -- `spoilt bytes` is heard as these bytes.
+  abbrev pub vehicle : Listener
+  vehicle = listenerAfter eight carries fleetBinding calls heard
 
   -- ---- "Let telegrams be lost or repeated, step order kept, each one heard coming at most 8,191 steps after the last table heard
   -- whole (before any, after the first telegram heard)."
 
-  -- D-02, T-01: what can be heard: one of the five packets of a step that the desk has made
-  abbrev pub Sent : ℕ → ℕ → Type 0
-  Sent n p = (n ≤ stepsMade rest calls) × (3 ≤ p) × (p ≤ 7) × binding .Carries (telegramOf (deskOf rest calls n) p)
-
-  -- A-24: that a sequence was heard so. Nothing asks that a telegram be heard at all, and none is forbidden to come again. `late` and
-  -- `damaged` allow more than the user does: repeats of the last whole table at any later time, and anywhere what the reader refuses.
-  pub data Premises : List (Item Message) → Type 0 where
-    nothing : Premises []
-    next : {earlier : List (Item Message)} (n p : ℕ) → Premises earlier → Sent n p → NoneAfter n earlier → Near n earlier → Premises (sent n p ∷ earlier)
-    late : {earlier : List (Item Message)} (n p : ℕ) (before : List ℕ) → Premises earlier → Sent n p → wholes earlier ≡ n ∷ before
-        → Premises (sent n p ∷ earlier)
-    damaged : {earlier : List (Item Message)} (other : Message) (number : ℕ) → Premises earlier → binding .read other .verdict ≡ Refused number
-        → Premises (spoilt other ∷ earlier)
+  -- M-3, A-24: each telegram is one of the packets 3 to 7 of a step that the desk has made, or of step 0, the fresh desk's; no telegram
+  -- before it is of a later step; and it comes at most 8,191 steps after the last table heard whole, or before any after the first
+  -- telegram. Any may be missing, and any may come again. More is allowed than the user asks for: a telegram of the last whole table
+  -- at any later time, and anywhere bytes that the reader refuses.
+  abbrev pub LostOrRepeated : Type 0
+  LostOrRepeated = Premises eight carries fleetBinding calls heard
 
   -- ---- "Then each table heard whole becomes the vehicle's picture exactly, and until then the previous picture stands."
 
-  -- M-3a, M-3b: the picture when these steps were heard whole, the newest first; A-20: before any, the fresh one
-  abbrev pub pictureOf : List ℕ → List Slot
-  pictureOf [] = replicate slots emptySlot
-  pictureOf (n ∷ before) = tableIn rest calls n
-
-  -- L-04: and the step last taken
-  abbrev pub lastOf : List ℕ → Last
-  lastOf [] = Never
-  lastOf (n ∷ before) = Step (n % steps)
+  -- M-3a, M-3b: the picture is the table of the newest step heard whole: all twenty slots. Before any it is the fresh one, which is empty.
+  abbrev pub PictureExact : Type 0
+  PictureExact = vehicle .picture ≡ pictureOf eight carries fleetBinding calls (wholes heard)
 
   -- ---- "A condition is marked as carried on exactly when at most eight steps lie from the previous whole table to this one and the
   -- same order stood in every accepted list from that one to this; a fresh desk's table counts as an empty list."
 
-  -- M-3c, A-23: slot i has a condition, and it is so of that condition's order. With the first table there is no previous one.
-  abbrev pub Carried : List ℕ → ℕ → Type 0
-  Carried [] i = ⊥
-  Carried (n ∷ []) i = ⊥
-  Carried (n ∷ m ∷ before) i =
-      let order = orderIn rest calls n i in
-      (1 ≤ order) × (n ≤ m + limit) × StoodFrom rest calls order m n
+  -- M-3c, M-3d: of the two newest steps heard whole, m and then n: the mark of slot i is set exactly when a condition stands in slot i of
+  -- the table of n, n is at most m + 8, and that condition's order stood in the accepted list of every step from m to n, both among
+  -- them; no order stood in that of step 0. After the first table heard whole, and before it, no mark is set.
+  abbrev pub MarkedExactly : Type 0
+  MarkedExactly = (i : ℕ) → (markAt (vehicle .marks) i ≡ true) ↔ Carried eight carries fleetBinding calls (wholes heard) i
 
   -- ---- "However long the loss within that bound, the next whole table puts the vehicle right."
 
-  -- M-3e: whatever was lost before, a telegram after which its table has been heard whole leaves that table as the picture
-  abbrev pub PutRight : List (Item Message) → Type 0
-  PutRight [] = Unit
-  PutRight (sent n p ∷ earlier) = isWhole (sent n p ∷ earlier) n ≡ true → listenerAfter (sent n p ∷ earlier) .picture ≡ tableIn rest calls n
-  PutRight (spoilt other ∷ earlier) = Unit
+  -- M-3e: whatever was lost before: where the newest telegram is one of step n, and all five of that step have been heard, the picture
+  -- is the table of step n.
+  abbrev pub NextPutsRight : Type 0
+  NextPutsRight = PutRight eight carries fleetBinding calls heard
 
-  -- ---- and the answers, which the user reads in the listing
+  -- ---- and what the user reads in the listing
 
-  -- L-05, L-08, C-09: the true distance from the previous whole table; 0 for the first
-  abbrev pub distance : List ℕ → ℕ → ℕ
-  distance [] n = 0
-  distance (m ∷ before) n = n - m
+  -- L-04: the step last taken is the step number of the newest table heard whole; before any, none.
+  abbrev pub LastExact : Type 0
+  LastExact = vehicle .last ≡ lastOf eight carries fleetBinding calls (wholes heard)
 
-  -- L-01 to L-04: a telegram that was heard before is a repeat; one that makes its table whole is answered with that table's step
-  -- number, its conditions and the distance; any other is held. None that the desk sent is refused.
-  abbrev pub expected : Item Message → List (Item Message) → Answer
-  expected (sent n p) earlier =
-      cond (wasHeard earlier n p) Repeat
-      (cond (isWhole (sent n p ∷ earlier) n) (Taken (n % steps) (countOf (tableIn rest calls n)) (distance (wholes earlier) n))
-      Held)
-  expected (spoilt other) earlier = refused (numberOf (binding .read other .verdict))
-
-  abbrev pub Answered : List (Item Message) → Type 0
-  Answered [] = Unit
-  Answered (item ∷ earlier) = answerTo item earlier ≡ expected item earlier
-
-  -- M-3: all that is claimed after a heard sequence, and so after each beginning of it
-  pub record Claim (heard : List (Item Message)) : Type 0 where
-    pub picture : listenerAfter heard .picture ≡ pictureOf (wholes heard)
-    pub last : listenerAfter heard .last ≡ lastOf (wholes heard)
-    pub carried : (i : ℕ) → (markAt (listenerAfter heard .marks) i ≡ true) ↔ Carried (wholes heard) i
-    pub right : PutRight heard
-    pub answered : Answered heard
+  -- L-01 to L-05, L-08, C-09: the newest telegram was answered as a repeat where it had been heard before; where it made its table whole,
+  -- with that table's step number, how many conditions it has, and how many steps lie from the whole table before it (0 for the first);
+  -- else as held. No telegram of the desk is refused, and what was spoilt is refused under the reader's number.
+  abbrev pub AnsweredExactly : Type 0
+  AnsweredExactly = Answered eight carries fleetBinding calls heard
 
 -- ---- the demand
-
--- M-2a, M-2b: the fleet's binding: the bytes that `write` leaves in this buffer, and what `hear` reads; it carries every telegram
-abbrev pub bytesIn : List ℕ → Binding (List ℕ)
-bytesIn buffer = record { write = λ t. written t buffer; read = readOf; Carries = λ t. Unit }
 
 -- C-08: the desk, the writer and the listener of this page are the public functions: by its contract each answers so, and a fresh end is
 -- what its maker gives
 pub record TheFunctions : Type 0 where
   pub fresh-desk : OfFreshDesk (λ desk. desk ≡ freshWith eight)
   pub accepts : OfAccept (λ desk list answer. answer ≡ acceptOf eight desk list)
-  pub writes : OfWrite (λ desk packet buffer verdict after. after ≡ bytesIn buffer .write (telegramOf desk packet))
+  -- R-26: what `accept` requires of a desk is so of the desk of any calls
+  pub made : (calls : List (List ℕ)) → Made (deskAfter eight calls)
+  -- M-2a: what the buffer held before does not matter: an accepted call leaves the bytes of the telegram, and these alone
+  pub writes : OfWrite (λ desk packet buffer verdict after. verdict ≡ Accepted → after ≡ fleetBinding .write (telegramOf desk packet))
+  -- R-09, R-10: each of the five packets is accepted into a buffer of 26 bytes
+  pub writes-five : OfWrite (λ desk packet buffer verdict after. 3 ≤ packet → packet ≤ 7 → length buffer ≡ 26 → verdict ≡ Accepted)
   pub fresh-listener : OfFreshListener (λ listener. listener ≡ freshListener)
-  pub hears : OfHear (λ listener telegram heard. heard ≡ hearOf carries listener (bytesIn telegram .read telegram))
+  pub hears : OfHear (λ listener telegram heard. heard ≡ hearOf carries listener (fleetBinding .read telegram))
+
+-- M-3: of every sequence of lists handed to a fresh desk, and of everything heard so: after each telegram, and for any length of service
+abbrev pub InEveryRun : ((calls : List (List ℕ)) → List (Item (List ℕ)) → Type 0) → Type 0
+InEveryRun Such = (calls : List (List ℕ)) (heard : List (Item (List ℕ))) → LostOrRepeated calls heard → Such calls heard
 
 pub record Demand3 : Type 0 where
   pub functions : TheFunctions
-  -- M-3: of every sequence of lists handed to a fresh desk, whatever the buffer of 26 bytes held, and of everything heard so
-  pub claim : (calls : List (List ℕ)) (buffer : List ℕ) → length buffer ≡ 26 → (heard : List (Item (List ℕ)))
-      → Premises eight carries (bytesIn buffer) calls heard → Claim eight carries (bytesIn buffer) calls heard
+  pub picture : InEveryRun PictureExact
+  pub carried : InEveryRun MarkedExactly
+  pub right : InEveryRun NextPutsRight
+  pub last : InEveryRun LastExact
+  pub answered : InEveryRun AnsweredExactly
+  -- C-08: and there are such runs: whatever the calls, the tables of any of the desk's steps that are at most 8,191 apart may be heard
+  -- whole, one after another (Regular.antt), and they are then the tables heard whole
+  pub met : (calls : List (List ℕ)) (n : ℕ) (before : List ℕ) → Spaced (stepsMade eight calls) (n ∷ before)
+      → LostOrRepeated calls (wholly (List ℕ) (n ∷ before)) × (wholes (wholly (List ℕ) (n ∷ before)) ≡ n ∷ before)

@@ -1,5 +1,22 @@
--- The public functions that the demands speak of. A line here says of a function: whatever it is handed, each outcome that its
--- contract allows is such. A slice that is lent stands here as its bytes, one that may be changed as its bytes before and after.
+-- The public functions that the demands speak of. Each line here says of a function: whatever it is handed, each outcome that its
+-- contract allows is such. An outcome is the answer and, of what is lent to be changed, the last value. A slice that is lent stands
+-- here as its bytes, one that may be changed as its bytes before and after.
+--
+-- One of them spelt out. The contract of `telegram_reader::read(bytes)` says that the reading is `readOf bytes`. So `OfRead Such` says: for
+-- all bytes, however many, and for every reading that is equal to `readOf bytes`, `Such bytes reading`. That is
+--
+--   (bytes : List ℕ) → Such bytes (readOf bytes)
+--
+-- and proofs/Functions.antt `read-says` proves that the one is so exactly when the other is. Demand 1 takes it with "the reading's verdict
+-- is a refusal under this number exactly when the row of this number holds and no earlier one does".
+--
+-- Spelt out with a buffer. `OfWrite Such` of `desk_writer::write(desk, packet, buffer)` says: for every desk, packet number and buffer, of
+-- the verdict that the contract gives and of what it says is in the buffer afterwards, `Such desk packet buffer verdict after`
+-- (`write-says`). So it is for each line below, with the theorem of its name there; of a lent record in every model of the machine
+-- (kit/specs/Asserted.antt).
+--
+-- The right sides need no reading for that. They pick, out of what the checker has of a function, what `Such` is about: `ended` is what
+-- the function is handed and what it gives, `Learnt` its contract, `κs` for how long each thing is lent, `lasts` the last values.
 use Prim.Native.Nat.{ℕ}
 use mathlib.Core.Bool.{Bool}
 use mathlib.Core.List.{List}

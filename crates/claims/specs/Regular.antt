@@ -1,5 +1,6 @@
--- Heard sequences without loss inside a table: the five packets of some steps, and nothing of the steps between. They show that the
--- premises of demand 3 can be met, whatever the steps, as long as they are at most 8,191 apart.
+-- Heard sequences without loss inside a table: the five packets of some steps, and nothing of the steps between. With them the page of
+-- demand 3 says that its premises can be met, whatever the steps, as long as they are at most 8,191 apart (`met`); so what it claims is
+-- claimed of something.
 use Prim.Native.Nat.{ℕ, _+_, _<_, _≤_}
 use mathlib.Core.List.{List, [], _∷_}
 use Rattle.claims.specs.Hearings.{Item, sent, farthest}

@@ -19,7 +19,7 @@ use Rattle.wire.specs.Steps.{gapOf}
 use Rattle.wire.specs.Verdicts.{verdictOf}
 use Rattle.kinds.specs.Words.{isConsidered, secondAllowed, secondHeld}
 use Rattle.telegram.specs.Tables.{fourOf}
-use Rattle.telegram.specs.Telegrams.{readOf, readRows, codedAt, takenBefore, telegramOf, bytesOf, written}
+use Rattle.telegram.specs.Telegrams.{readOf, readRows, codedAt, takenBefore, telegramOf, bytesOf}
 use Rattle.desk.specs.Desks.{rest, tableOf, telegramOf as deskTelegram}
 use Rattle.picture.specs.Pictures.{countOf, hasNumber, isTwice, clashes}
 use Rattle.marks.specs.Marks.{isSame, isKnown, isCarried, marksOf}
@@ -28,11 +28,11 @@ use Rattle.hand.specs.Sets.{begun, setFor, isHeld, joined, isWhole}
 use Rattle.listener.specs.declared.Answer.{Answer}
 use Rattle.listener.specs.declared.Answer.the-variants.{Repeat, Held, Taken}
 use Rattle.claims.specs.Calls.{tableIn}
-use Rattle.claims.specs.Demand3.{bytesIn, Premises}
+use Rattle.claims.specs.Demand3.{vehicle, LostOrRepeated}
 use Rattle.claims.specs.Hearings.{Item, sent, wholes}
 use Rattle.claims.specs.Regular.{fiveOf, wholly}
-use Rattle.claims.proofs.Regular.{regular}
-use Rattle.reckoned.specs.Standing.{standing, then-five, blank, listener, answers}
+use Rattle.claims.proofs.Demand3.{demand3}
+use Rattle.reckoned.specs.Standing.{standing, then-five, answers}
 use Rattle.reckoned.proofs.Standing.{Within, said, stood, fived, wire, answering, wires, fiveWires, same-listener, same-answers, said-wires, standing-made, desk-five, desk-before-five}
 
 -- a table taken with its fifth packet, after others
@@ -47,7 +47,7 @@ module _ (k : ℕ) (at : List ℕ) (inside : Within k at) where
   answers-at : answers (standing k) (heard at) ≡ answering (wires at)
   answers-at = same-answers (standing k) (heard at) ∙ ap answering (said-wires k at inside)
 
-  marks-at : listener (standing k) (heard at) .marks ≡ heardAll carries (wires at) .marks
+  marks-at : vehicle (standing k) (heard at) .marks ≡ heardAll carries (wires at) .marks
   marks-at = ap (λ l. l .marks) (same-listener (standing k) (heard at) ∙ ap (heardAll carries) (said-wires k at inside))
 
 -- ---- what the checker computes, of the bytes
@@ -66,14 +66,14 @@ computed : (answering (wires (8209 ∷ 18 ∷ 9 ∷ 1 ∷ [])) ≡ taken 17 1 81
     × (heardAll carries (wires (8194 ∷ 1 ∷ [])) .marks ≡ one-marked)
     × (answering (fiveWires (fived 1) (wires (1 ∷ []))) ≡ Repeat ∷ Repeat ∷ Repeat ∷ Repeat ∷ Repeat ∷ taken 1 1 0 [])
     × (answering (fiveWires (fived 1) (wire (stood 1) 3 ∷ [])) ≡ Taken 1 2 0 ∷ Held ∷ Held ∷ Held ∷ Repeat ∷ Held ∷ [])
-unfolding answering heardAll wires hearOf heardOf ladder setFor begun isHeld joined isWhole count fold takenBy marksOf isCarried isKnown isSame scan clashes isTwice hasNumber countOf freshListener readOf verdictOf readRows each codedAt takenBefore slotRows secondAllowed secondHeld isConsidered telegramOf bodyOf bytesOf written sixOf codedOf fourOf tableOf deskTelegram gapOf
+unfolding answering heardAll wires hearOf heardOf ladder setFor begun isHeld joined isWhole count fold takenBy marksOf isCarried isKnown isSame scan clashes isTwice hasNumber countOf freshListener readOf verdictOf readRows each codedAt takenBefore slotRows secondAllowed secondHeld isConsidered telegramOf bodyOf bytesOf sixOf codedOf fourOf tableOf deskTelegram gapOf
 computed = (refl, refl, refl, refl, refl, refl, refl, refl)
 
 -- ---- within the bound
 
-pub within : Premises rest carries (bytesIn blank) (standing 8209) (heard (8209 ∷ 18 ∷ 9 ∷ 1 ∷ [])) × (wholes (heard (8209 ∷ 18 ∷ 9 ∷ 1 ∷ [])) ≡ 8209 ∷ 18 ∷ 9 ∷ 1 ∷ [])
+pub within : LostOrRepeated (standing 8209) (heard (8209 ∷ 18 ∷ 9 ∷ 1 ∷ [])) × (wholes (heard (8209 ∷ 18 ∷ 9 ∷ 1 ∷ [])) ≡ 8209 ∷ 18 ∷ 9 ∷ 1 ∷ [])
 within =
-    regular rest carries (bytesIn blank) (standing 8209) (λ t. tt) 8209 (18 ∷ 9 ∷ 1 ∷ [])
+    demand3 .met (standing 8209) 8209 (18 ∷ 9 ∷ 1 ∷ [])
     (rw (standing-made 8209) (omega arith, omega arith, omega arith, (omega arith, omega arith, omega arith, (omega arith, omega arith, omega arith, omega arith))))
 
 -- the answers: the gaps are the true distances, 0 for the first; step 8,209 has step number 17
@@ -81,19 +81,19 @@ pub gaps : answers (standing 8209) (heard (8209 ∷ 18 ∷ 9 ∷ 1 ∷ [])) ≡ 
 gaps = answers-at 8209 (8209 ∷ 18 ∷ 9 ∷ 1 ∷ []) (omega arith) ∙ computed .0
 
 -- the marks, slot 0 being the condition's: carried over 8, new over 9 and over 8,191
-pub carried-over-8 : listener (standing 8209) (heard (9 ∷ 1 ∷ [])) .marks ≡ one-marked
+pub carried-over-8 : vehicle (standing 8209) (heard (9 ∷ 1 ∷ [])) .marks ≡ one-marked
 carried-over-8 = marks-at 8209 (9 ∷ 1 ∷ []) (omega arith) ∙ computed .1
 
-pub new-over-9 : listener (standing 8209) (heard (18 ∷ 9 ∷ 1 ∷ [])) .marks ≡ none-marked
+pub new-over-9 : vehicle (standing 8209) (heard (18 ∷ 9 ∷ 1 ∷ [])) .marks ≡ none-marked
 new-over-9 = marks-at 8209 (18 ∷ 9 ∷ 1 ∷ []) (omega arith) ∙ computed .2
 
-pub new-over-8191 : listener (standing 8209) (heard (8209 ∷ 18 ∷ 9 ∷ 1 ∷ [])) .marks ≡ none-marked
+pub new-over-8191 : vehicle (standing 8209) (heard (8209 ∷ 18 ∷ 9 ∷ 1 ∷ [])) .marks ≡ none-marked
 new-over-8191 = marks-at 8209 (8209 ∷ 18 ∷ 9 ∷ 1 ∷ []) (omega arith) ∙ computed .3
 
 -- ---- beyond the bound
 
 -- 8,193 steps from one whole table to the next: the gap shows 1, and the condition is called carried
-pub gap-not-true : (answers (standing 8194) (heard (8194 ∷ 1 ∷ [])) ≡ taken 2 1 1 (taken 1 1 0 [])) × (listener (standing 8194) (heard (8194 ∷ 1 ∷ [])) .marks ≡ one-marked)
+pub gap-not-true : (answers (standing 8194) (heard (8194 ∷ 1 ∷ [])) ≡ taken 2 1 1 (taken 1 1 0 [])) × (vehicle (standing 8194) (heard (8194 ∷ 1 ∷ [])) .marks ≡ one-marked)
 gap-not-true = (
   answers-at 8194 (8194 ∷ 1 ∷ []) (omega arith) ∙ computed .4,
   marks-at 8194 (8194 ∷ 1 ∷ []) (omega arith) ∙ computed .5,

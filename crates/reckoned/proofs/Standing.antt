@@ -28,15 +28,16 @@ use Rattle.desk.specs.Steps.{stepOf}
 use Rattle.arriving.specs.Arriving.{seated, seatedAll}
 use Rattle.desk.specs.declared.Desk.{Desk}
 use Rattle.claims.specs.Calls.{deskAfter, accepted, stepsMade, upTo, deskOf}
-use Rattle.claims.specs.Demand3.{bytesIn, message, listenerAfter}
+use Rattle.claims.specs.Demand3.{fleetBinding, vehicle}
+use Rattle.claims.specs.Ends.{message, listenerAfter}
 use Rattle.claims.specs.Hearings.{Item}
 use Rattle.claims.specs.Regular.{wholly}
-use Rattle.telegram.specs.Telegrams.{readOf, written}
+use Rattle.telegram.specs.Telegrams.{readOf, bytesOf}
 use Rattle.listener.specs.Listeners.{carries, heardAll, hearOf}
 use Rattle.listener.specs.declared.Answer.{Answer}
 use Rattle.claims.proofs.History.{accepted-more, up-to-before, up-to-all}
 use Rattle.reckoned.specs.Reckoned.{order, orders}
-use Rattle.reckoned.specs.Standing.{standing, then-five, blank, listener, answers}
+use Rattle.reckoned.specs.Standing.{standing, then-five, answers}
 
 -- order n with number n, type 1
 abbrev pub entry : ℕ → Place
@@ -134,13 +135,13 @@ answering (bytes ∷ earlier) = hearOf carries (heardAll carries earlier) (readO
 
 -- packet p of a desk's table
 abbrev pub wire : Desk → ℕ → List ℕ
-wire desk p = written (deskTelegram desk p) blank
+wire desk p = bytesOf (deskTelegram desk p)
 
 module _ (calls : List (List ℕ)) where
   abbrev pub said : Item (List ℕ) → List ℕ
-  said item = message rest carries (bytesIn blank) calls item
+  said item = message rest carries fleetBinding calls item
 
-  pub same-listener : (heard : List (Item (List ℕ))) → listener calls heard ≡ heardAll carries (map said heard)
+  pub same-listener : (heard : List (Item (List ℕ))) → vehicle calls heard ≡ heardAll carries (map said heard)
   unfolding listenerAfter heardAll
   same-listener [] = refl
   same-listener (item ∷ heard) = ap (λ l. hearOf carries l (readOf (said item)) .listener) (same-listener heard)

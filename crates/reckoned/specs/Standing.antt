@@ -6,8 +6,8 @@ use lib.ListN.{replicate}
 use Rattle.desk.specs.Desks.{rest}
 use Rattle.listener.specs.Listeners.{carries}
 use Rattle.listener.specs.declared.Answer.{Answer}
-use Rattle.listener.specs.declared.Listener.{Listener}
-use Rattle.claims.specs.Demand3.{bytesIn, listenerAfter, answerTo}
+use Rattle.claims.specs.Demand3.{fleetBinding}
+use Rattle.claims.specs.Ends.{answerTo}
 use Rattle.claims.specs.Hearings.{Item}
 use Rattle.reckoned.specs.Reckoned.{order, orders}
 
@@ -19,14 +19,7 @@ standing k = replicate k (order 1)
 unfoldable pub then-five : ℕ → List (List ℕ)
 then-five k = orders 5 1 ∷ standing k
 
--- the buffer that the desk writes into
-abbrev pub blank : List ℕ
-blank = replicate 26 0
-
--- the listener that has heard these, the newest first, and its answers, the newest first
-abbrev pub listener : List (List ℕ) → List (Item (List ℕ)) → Listener
-listener calls heard = listenerAfter rest carries (bytesIn blank) calls heard
-
+-- the answers of the listener that heard these, the newest first
 unfoldable pub answers : List (List ℕ) → List (Item (List ℕ)) → List Answer
 answers calls [] = []
-answers calls (item ∷ earlier) = answerTo rest carries (bytesIn blank) calls item earlier ∷ answers calls earlier
+answers calls (item ∷ earlier) = answerTo rest carries fleetBinding calls item earlier ∷ answers calls earlier

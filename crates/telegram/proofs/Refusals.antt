@@ -49,11 +49,14 @@ module _ (t : Telegram) (buffer : List ℕ) where
       (λ z. write-accepted t buffer refusal refl (eqb-true refusal 0 z) .1)
       (λ z. absurd (accepted-or-refused refusal (sym e ∙ write-refused t buffer refusal refl (eqb-false refusal 0 z) .0)))
 
-  -- M-2a: whatever a buffer of 26 bytes held, a packet from 3 to 7 fills it
+  -- R-09, R-10: a packet from 3 to 7 is accepted into a buffer of 26 bytes
+  pub packet-accepted : 3 ≤ t .packet → t .packet ≤ 7 → length buffer ≡ 26 → writeVerdict t buffer ≡ Accepted
+  packet-accepted low high long =
+      writing-accepted .1 (rw (le-leb 3 (t .packet) low, le-leb (t .packet) 7 high) refl, (rw (eq-eqb (length buffer) 26 long) refl, tt))
+
+  -- M-2a: and fills it, whatever it held
   pub packet-fills : 3 ≤ t .packet → t .packet ≤ 7 → length buffer ≡ 26 → written t buffer ≡ bytesOf t
-  packet-fills low high long =
-      accepted-written
-      (writing-accepted .1 (rw (le-leb 3 (t .packet) low, le-leb (t .packet) 7 high) refl, (rw (eq-eqb (length buffer) 26 long) refl, tt)))
+  packet-fills low high long = accepted-written (packet-accepted low high long)
 
   -- R-09, R-10: and an accepted one is of a packet from 3 to 7, into a buffer of 26 bytes
   pub accepted-asked : writeVerdict t buffer ≡ Accepted → (3 ≤ t .packet) × (t .packet ≤ 7) × (length buffer ≡ 26)
