@@ -3,7 +3,7 @@ use Prim.Native.Nat.{ℕ}
 use mathlib.Core.Path.{_≡_, refl}
 use mathlib.Core.Bool.{Bool, true, false}
 use lib.ListN.{set}
-use Rattle.places.specs.Places.{placeOf, isLive}
+use Rattle.places.specs.Places.{lowestFree, isLive}
 use Rattle.order_list.specs.declared.Order.{Order}
 use Rattle.places.specs.declared.Place.{Place}
 use Rattle.numbers.specs.Numbers.{nextNumber}
@@ -22,7 +22,7 @@ newPlace resting order seats =
 pub seated-new : (resting : ℕ → Bool) (order : Order) (seats : Seats) → isLive (seats .places) (order .number) ≡ false
     → seated resting order seats
     ≡ record {
-      places = set (seats .places) (placeOf (seats .places) 0) (newPlace resting order seats);
+      places = set (seats .places) (lowestFree (seats .places)) (newPlace resting order seats);
       last = nextNumber resting (seats .places) (seats .last);
     }
 unfolding seated

@@ -1,3 +1,4 @@
+pub mod Arriving
 pub mod Demand1
 pub mod Demand2
 pub mod Demand3
@@ -7,3 +8,4 @@ pub mod Functions
 pub mod History
 pub mod Regular
 pub mod Sequences
+pub mod Step

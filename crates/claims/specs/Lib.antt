@@ -6,3 +6,4 @@ pub mod Ends
 pub mod Functions
 pub mod Hearings
 pub mod Regular
+pub mod Step

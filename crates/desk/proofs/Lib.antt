@@ -1,5 +1,7 @@
+pub mod Arrivals
 pub mod Endings
 pub mod Making
+pub mod NewOrders
 pub mod Promises
 pub mod Resting
 pub mod Seating

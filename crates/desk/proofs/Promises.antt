@@ -18,23 +18,23 @@ use Rattle.condition.specs.Slots.{codedOf}
 use Rattle.wire.specs.declared.verdicts.Verdict.the-variants.{Accepted, Refused}
 use Rattle.telegram.specs.Telegrams.{readOf, bytesOf}
 use Rattle.order_list.specs.Lists.{orderAt, listedAt, stands, orderNamed}
-use Rattle.places.specs.Places.{placeOf, placeAt, isLive}
+use Rattle.places.specs.Places.{placeAt, lowestFree, isLive}
 use Rattle.orders.specs.Orders.{listRows, listRefusal}
 use Rattle.orders.proofs.Lists.{fair}
 use Rattle.orders.proofs.Rows.{list-numbered}
 use Rattle.desk.specs.Desks.{rest, acceptOf, telegramOf, Made}
 use Rattle.leaving.specs.Leaving.{bodyIn}
 use Rattle.desk.specs.Steps.{keptPlace}
-use Rattle.desk.specs.Runs.{run, Accepted as Accepted-run}
+use Rattle.desk.specs.Runs.{run, Accepted as Accepted-run, OneNew}
 use Rattle.desk.specs.declared.Answer.{Answer}
 use Rattle.desk.specs.declared.Desk.{Desk}
 use Rattle.resting.specs.Rests.{isResting}
 use Rattle.numbers.specs.Numbers.{isPermitted, nextNumber, numberAfter}
 use Rattle.resting.specs.declared.Ended.{Ended}
 use Rattle.resting.proofs.Rested.{covers-resting}
-use Rattle.numbers.proofs.Search.{number-permitted}
+use Rattle.numbers.proofs.Search.{number-permitted, number-range as search-range}
 use Rattle.desk.proofs.Tracing.{at, rested}
-use Rattle.desk.proofs.Turns.{OneNew, passed-over, given-again}
+use Rattle.desk.proofs.Turns.{passed-over, given-again}
 use Rattle.desk.proofs.Making.{accepts, refuses, made-sound}
 use Rattle.desk.proofs.Stepping.{live-listed, has-words, keeps}
 use Rattle.desk.proofs.Tables.{packet-read}
@@ -69,11 +69,21 @@ module _ {desk : Desk} (made : Made desk) where
       × ((number : ℕ) → isResting rest (desk .step) (desk .ended) number ≡ true → member number (map (λ (e : Ended). e .number) (desk .ended)) ≡ true)
   few-rest = (made-sound made .kept, covers-resting rest (desk .step) (desk .ended))
 
-  -- D-15: so the search for the next number ends at a permitted one
-  pub number-found : isPermitted (isResting rest (desk .step) (desk .ended)) (desk .places) (nextNumber (isResting rest (desk .step) (desk .ended)) (desk .places) (desk .last)) ≡ true
+  few : length (map (λ (e : Ended). e .number) (desk .ended)) ≤ 220
+  few = omega (arith, length-map (desk .ended) (λ (e : Ended). e .number), few-rest .0)
+
+  abbrev pub found : ℕ
+  found = nextNumber (isResting rest (desk .step) (desk .ended)) (desk .places) (desk .last)
+
+  -- D-15: so the search for the next number ends at a permitted one, from 1 to 255
+  pub number-found : isPermitted (isResting rest (desk .step) (desk .ended)) (desk .places) found ≡ true
   number-found =
-      let few : length (map (λ (e : Ended). e .number) (desk .ended)) ≤ 220 = omega (arith, length-map (desk .ended) (λ (e : Ended). e .number), few-rest .0) in
       number-permitted (isResting rest (desk .step) (desk .ended)) (map (λ (e : Ended). e .number) (desk .ended)) (few-rest .1) few (desk .places)
+      (made-sound made .orderly .twenty) (desk .last)
+
+  pub found-range : (1 ≤ found) × (found ≤ 255)
+  found-range =
+      search-range (isResting rest (desk .step) (desk .ended)) (map (λ (e : Ended). e .number) (desk .ended)) (few-rest .1) few (desk .places)
       (made-sound made .orderly .twenty) (desk .last)
 
   -- M-2d: each packet that it writes is read back
@@ -150,4 +160,4 @@ module _ (earlier : List (List ℕ)) (ending : List ℕ) (i : ℕ) (live : 1 ≤
   p5-given eight last j new =
       let turn : numberAfter (before .last) 0 ≡ at (desk-after earlier) i .slot .number = ap (λ n. numberAfter n 0) last ∙ sym one in
       given (given-again rest rest (omega arith) (omega arith) earlier ending i live ended between list accepted (omega arith) turn j new)
-      (λ (l, number, order). (placeOf (map (keptPlace list) (before .places)) 0, order, number ∙ one))
+      (λ (l, number, order). (lowestFree (map (keptPlace list) (before .places)), order, number ∙ one))

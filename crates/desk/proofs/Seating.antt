@@ -18,7 +18,7 @@ use Rattle.kit.proofs.Cases.{on, given}
 use Rattle.kit.proofs.Loops.{fold-none, fold-more}
 use Rattle.kit.proofs.Member.{too-many}
 use Rattle.kit.specs.Ladder.{Silent}
-use Rattle.condition.specs.Slots.{slotRows, codedOf, Held, slots}
+use Rattle.condition.specs.Slots.{slotRows, codedOf, settled, Held, slots}
 use Rattle.condition.specs.declared.slots.Coded.{Coded}
 use Rattle.condition.specs.declared.slots.Slot.{Slot}
 use Rattle.condition.proofs.Coding.{filled-silent, read-held, coded-back}
@@ -27,7 +27,7 @@ use Rattle.places.specs.Places.{freePlace, placeAt, placeOf, lowestFree, isLive
 use Rattle.order_list.specs.declared.Order.{Order}
 use Rattle.places.specs.declared.Place.{Place}
 use Rattle.order_list.proofs.Listed.{listed-there, listed-when}
-use Rattle.places.proofs.Live.{live-there, live-none, live-when}
+use Rattle.places.proofs.Live.{live-there, live-none, live-when, free-there, free-none}
 use Rattle.orders.proofs.Lists.{Fair}
 use Rattle.numbers.specs.Numbers.{nextNumber}
 use Rattle.numbers.proofs.Search.{number-range, number-idle, number-rested}
@@ -72,10 +72,10 @@ module _ {places : List Place} (o : Orderly places) where
 
 -- the slot that an order of an accepted list makes with a number: it is held, and has the order's type
 module _ {old : List Place} {list : List ℕ} (fair : Fair old list) {j : ℕ} (inlist : j < orderCount list) (number : ℕ) (positive : 0 < number) where
-  abbrev made : Slot
+  abbrev pub made : Slot
   made = record { number = number; body = bodyIn (orderAt list j) }
 
-  abbrev coded : Coded
+  abbrev pub coded : Coded
   coded = record { number = number; kind = orderAt list j .kind; first = orderAt list j .first; second = orderAt list j .second }
 
   silent : Silent (slotRows coded)
@@ -84,31 +84,30 @@ module _ {old : List Place} {list : List ℕ} (fair : Fair old list) {j : ℕ} (
   pub made-held : Held made
   made-held = read-held coded silent
 
+  pub made-coded : codedOf made ≡ settled coded
+  made-coded = coded-back coded silent
+
   pub made-kind : codedOf made .kind ≡ orderAt list j .kind
-  made-kind = ap (λ (c : Coded). c .kind) (coded-back coded silent)
+  made-kind = ap (λ (c : Coded). c .kind) made-coded
 
 -- the lowest free place taken: that one, and every other as it was
-abbrev taken : List Place → Place → List Place
-taken places new = set places (placeOf places 0) new
+abbrev pub taken : List Place → Place → List Place
+taken places new = set places (lowestFree places) new
 
-abbrev Spot : List Place → Place → ℕ → Type 0
-Spot places new i = ((i ≡ placeOf places 0) × (placeAt (taken places new) i ≡ new)) ⊎ (placeAt (taken places new) i ≡ placeAt places i)
+abbrev pub Spot : List Place → Place → ℕ → Type 0
+Spot places new i = ((i ≡ lowestFree places) × (placeAt (taken places new) i ≡ new)) ⊎ (placeAt (taken places new) i ≡ placeAt places i)
 
-spot : (places : List Place) (new : Place) → placeOf places 0 < length places → (i : ℕ) → Spot places new i
+pub spot : (places : List Place) (new : Place) → lowestFree places < length places → (i : ℕ) → Spot places new i
 spot places new p i =
-    let at : ℕ = placeOf places 0 in
+    let at : ℕ = lowestFree places in
     on (eqb i at)
     (λ e. inl (eqb-true i at e, subst (λ k. getD (set places at new) k freePlace ≡ new) (sym (eqb-true i at e)) (getD-set-same places at new freePlace p)))
     (λ e. inr (getD-set-other places at i new freePlace (eqb-false i at e)))
 
--- it was free
-was-free : (places : List Place) → placeOf places 0 < slots → placeAt places (placeOf places 0) .order ≡ 0
-was-free places room = live-there places 0 (lt-ltb (placeOf places 0) slots room) .1
-
 -- ---- one place taken
 
 module _ (places : List Place) (o : Orderly places) (new : Place) (named : 1 ≤ new .order) (positive : 1 ≤ new .slot .number)
-    (small : new .slot .number ≤ 255) (held : Held (new .slot)) (unlive : isLive places (new .order) ≡ false) (room : placeOf places 0 < slots)
+    (small : new .slot .number ≤ 255) (held : Held (new .slot)) (unlive : isLive places (new .order) ≡ false) (room : lowestFree places < slots)
     (unused : (i : ℕ) → i < slots → placeAt places i .slot .number ≡ new .slot .number → ⊥) where
   abbrev beyond : List Place
   beyond = taken places new
@@ -144,7 +143,7 @@ module _ (places : List Place) (o : Orderly places) (new : Place) (named : 1 ≤
   pub taken-orderly : Orderly beyond
   taken-orderly =
       record {
-        twenty = length-set places (placeOf places 0) new ∙ o .twenty;
+        twenty = length-set places (lowestFree places) new ∙ o .twenty;
         free = λ i. taken-free i (here-or-there i);
         numbered = λ i. taken-numbered i (here-or-there i);
         apart = λ i j. taken-distinct (λ place. place .slot .number) (o .apart) no-number i j (here-or-there i) (here-or-there j);
@@ -196,29 +195,23 @@ module _ (resting : ℕ → Bool) (kept : List ℕ) (covered : (n : ℕ) → res
 
     -- where no place is free, twenty orders and this one stand in a list of twenty
     module _ (unlive : isLive (seats .places) (order .number) ≡ false) where
-      full : isLive (seats .places) 0 ≡ false → (i : ℕ) → i < slots → 1 ≤ placeAt (seats .places) i .order
-      full none i q =
-          on (eqb (placeAt (seats .places) i .order) 0)
-          (λ e. absurd (live-none (seats .places) 0 i none q (eqb-true (placeAt (seats .places) i .order) 0 e)))
-          (λ e. omega (arith, eqb-false (placeAt (seats .places) i .order) 0 e))
-
       crowd : ℕ → ℕ
       crowd i = cond (ltb i slots) (placeAt (seats .places) i .order) (order .number)
 
-      crowd-listed : isLive (seats .places) 0 ≡ false → (i : ℕ) → stands list (crowd i) ≡ true
+      crowd-listed : slots ≤ lowestFree (seats .places) → (i : ℕ) → stands list (crowd i) ≡ true
       unfolding crowd
       crowd-listed none i =
           on (ltb i slots)
-          (λ e. rw e (still-listed i (a .grown i) (full none i (ltb-true i slots e))))
+          (λ e. rw e (still-listed i (a .grown i) (free-none (seats .places) none i (ltb-true i slots e))))
           (λ e. rw e (listed-when list (orderCount list) (order .number) j p refl))
 
-      crowd-single : isLive (seats .places) 0 ≡ false → (i k : ℕ) → i < 21 → k < 21 → crowd i ≡ crowd k → i ≡ k
+      crowd-single : slots ≤ lowestFree (seats .places) → (i k : ℕ) → i < 21 → k < 21 → crowd i ≡ crowd k → i ≡ k
       unfolding crowd
       crowd-single none i k q r same =
           on (ltb i slots)
           (λ e.
           on (ltb k slots)
-          (λ f. a .orderly .single i k (full none i (ltb-true i slots e)) (rw (e, f) at same))
+          (λ f. a .orderly .single i k (free-none (seats .places) none i (ltb-true i slots e)) (rw (e, f) at same))
           (λ f. absurd (live-none (seats .places) (order .number) i unlive (ltb-true i slots e) (rw (e, f) at same))))
           (λ e.
           on (ltb k slots)
@@ -226,11 +219,12 @@ module _ (resting : ℕ → Bool) (kept : List ℕ) (covered : (n : ℕ) → res
           (λ f. omega (arith, ltb-false i slots e, ltb-false k slots f)))
 
       -- D-08: so a new order finds a free slot
-      pub room : placeOf (seats .places) 0 < slots
+      pub room : lowestFree (seats .places) < slots
       room =
-          on (isLive (seats .places) 0)
-          (λ e. live-there (seats .places) 0 e .0)
-          (λ none.
+          on (ltb (lowestFree (seats .places)) slots)
+          (λ e. ltb-true (lowestFree (seats .places)) slots e)
+          (λ e.
+          let none : slots ≤ lowestFree (seats .places) = ltb-false (lowestFree (seats .places)) slots e in
           absurd
           (too-many (λ i. listedAt list (orderCount list) (crowd i)) 21 (orderCount list)
           (λ i k q r same.
@@ -278,7 +272,7 @@ module _ (resting : ℕ → Bool) (kept : List ℕ) (covered : (n : ℕ) → res
           inr
           (subst (λ (x : Place). New resting list start i x) (sym e)
           (record {
-            was = was-start i g (ap (λ k. placeAt (seats .places) k .order) here ∙ was-free (seats .places) (room unlive));
+            was = was-start i g (ap (λ k. placeAt (seats .places) k .order) here ∙ free-there (seats .places) (room unlive));
             entry = j;
             inlist = p;
             order = refl;
@@ -294,8 +288,8 @@ module _ (resting : ℕ → Bool) (kept : List ℕ) (covered : (n : ℕ) → res
       next-live k q =
           on (eqb k j)
           (λ e.
-          live-when (next .places) (orderAt list k .number) (placeOf (seats .places) 0) (room unlive)
-          (ap (λ (x : Place). x .order) (getD-set-same (seats .places) (placeOf (seats .places) 0) new freePlace (omega (arith, room unlive, a .orderly .twenty)))
+          live-when (next .places) (orderAt list k .number) (lowestFree (seats .places)) (room unlive)
+          (ap (λ (x : Place). x .order) (getD-set-same (seats .places) (lowestFree (seats .places)) new freePlace (omega (arith, room unlive, a .orderly .twenty)))
           ∙ ap (λ m. orderAt list m .number) (sym (eqb-true k j e))))
           (λ e.
           given (live-there (seats .places) (orderAt list k .number) (a .live k (omega (arith, eqb-false k j e))))
@@ -306,7 +300,7 @@ module _ (resting : ℕ → Bool) (kept : List ℕ) (covered : (n : ℕ) → res
         where
           kept-order : (k i : ℕ) → placeAt (seats .places) i .order ≡ orderAt list k .number → Spot (seats .places) new i
               → 1 ≤ orderAt list k .number → placeAt (next .places) i .order ≡ orderAt list k .number
-          kept-order k i same (inl (here, e)) named = absurd (omega (arith, ap (λ m. placeAt (seats .places) m .order) here ∙ was-free (seats .places) (room unlive)))
+          kept-order k i same (inl (here, e)) named = absurd (omega (arith, ap (λ m. placeAt (seats .places) m .order) here ∙ free-there (seats .places) (room unlive)))
           kept-order k i same (inr e) named = rw e same
 
       next-after : After next (j + 1)

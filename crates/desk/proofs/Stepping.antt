@@ -59,10 +59,11 @@ module _ (rest rows : ℕ) (enough : rest ≤ rows) (few : rows ≤ 11) (desk : 
   abbrev next : Desk
   next = stepOf rest desk list
 
-  abbrev bar : List ℕ
+  -- the numbers that may rest
+  abbrev pub bar : List ℕ
   bar = map (λ (e : Ended). e .number) ended
 
-  bar-few : length bar ≤ 220
+  pub bar-few : length bar ≤ 220
   bar-few =
       let e : length bar ≡ slots * rows = length-map ended (λ (e : Ended). e .number) ∙ (ended-long list (orderCount list) now (desk .places) (desk .ended) (sound .orderly .twenty) ∙ sound .kept) in
       omega arith

@@ -14,16 +14,16 @@ use Rattle.kit.specs.Loops.{fold}
 use Rattle.kit.proofs.Cases.{on, clash, given}
 use Rattle.kit.proofs.Loops.{fold-none, fold-more}
 use Rattle.order_list.specs.Lists.{stands, orderAt, orderCount}
-use Rattle.places.specs.Places.{freePlace, placeAt, placeOf, isLive}
+use Rattle.places.specs.Places.{freePlace, placeAt, placeOf, lowestFree, isLive}
 use Rattle.condition.specs.Slots.{slots}
 use Rattle.places.specs.declared.Place.{Place}
 use Rattle.order_list.proofs.Listed.{listed-when}
-use Rattle.places.proofs.Live.{live-there, live-when}
+use Rattle.places.proofs.Live.{live-there, live-when, free-there}
 use Rattle.orders.proofs.Lists.{Fair, fair}
 use Rattle.resting.specs.Rests.{isResting}
 use Rattle.numbers.specs.Numbers.{hasNumber, isPermitted, nextNumber, numberAfter}
 use Rattle.numbers.proofs.Search.{number-first, number-some}
-use Rattle.desk.specs.Runs.{run, Accepted, EndedAgo}
+use Rattle.desk.specs.Runs.{run, Accepted, EndedAgo, OneNew}
 use Rattle.desk.specs.Steps.{keptPlace, stepOf, nextStep, endedNumbers}
 use Rattle.desk.specs.declared.Desk.{Desk}
 use Rattle.arriving.specs.Arriving.{seated, seatedAll}
@@ -36,12 +36,6 @@ use Rattle.desk.proofs.Seating.{Orderly, RoomForAll}
 use Rattle.desk.proofs.Staying.{Stayed, case, kept-orderly}
 use Rattle.desk.proofs.Stepping.{Sound, next-room}
 use Rattle.desk.proofs.Tracing.{at, run-sound, rested, older}
-
--- of the orders of a list, one is new: order j
-pub record OneNew (places : List Place) (list : List ℕ) (j : ℕ) : Type 0 where
-  pub inlist : j < orderCount list
-  pub new : isLive places (orderAt list j .number) ≡ false
-  pub others : (k : ℕ) → k < orderCount list → (k ≡ j → ⊥) → isLive places (orderAt list k .number) ≡ true
 
 -- ---- placing a list with one new order is placing that one
 
@@ -62,9 +56,9 @@ module _ (resting : ℕ → Bool) (list : List ℕ) (start : Seats) (j : ℕ) (o
       ∙ (fold-more turn start m
       ∙ (ap (turn m) (until m (omega arith)) ∙ seated-live resting (orderAt list m) start (one .others m (omega (arith, one .inlist)) (λ z. omega arith))))
 
-  room : placeOf (start .places) 0 < slots
+  room : lowestFree (start .places) < slots
   unfolding seatedAll
-  room = subst (λ (s : Seats). isLive (s .places) (orderAt list j .number) ≡ false → placeOf (s .places) 0 < slots) (until j (omega arith)) (rooms j (one .inlist)) (one .new)
+  room = subst (λ (s : Seats). isLive (s .places) (orderAt list j .number) ≡ false → lowestFree (s .places) < slots) (until j (omega arith)) (rooms j (one .inlist)) (one .new)
 
   -- the others are live after it
   still : (k : ℕ) → k < orderCount list → (k ≡ j → ⊥) → isLive (done .places) (orderAt list k .number) ≡ true
@@ -72,19 +66,17 @@ module _ (resting : ℕ → Bool) (list : List ℕ) (start : Seats) (j : ℕ) (o
       subst (λ (s : Seats). isLive (s .places) (orderAt list k .number) ≡ true) (sym (seated-new resting (orderAt list j) start (one .new)))
       (given (live-there (start .places) (orderAt list k .number) (one .others k p other))
       (λ (small, same).
-      live-when (set (start .places) (placeOf (start .places) 0) (newPlace resting (orderAt list j) start)) (orderAt list k .number)
+      live-when (set (start .places) (lowestFree (start .places)) (newPlace resting (orderAt list j) start)) (orderAt list k .number)
       (placeOf (start .places) (orderAt list k .number)) small
       (ap (λ (x : Place). x .order)
-      (getD-set-other (start .places) (placeOf (start .places) 0) (placeOf (start .places) (orderAt list k .number)) (newPlace resting (orderAt list j) start) freePlace
+      (getD-set-other (start .places) (lowestFree (start .places)) (placeOf (start .places) (orderAt list k .number)) (newPlace resting (orderAt list j) start) freePlace
       (λ z.
-      omega (arith, named k p, same, ap (placeAtOrder (start .places)) z, free-there)))
+      omega (arith, named k p, same, ap (placeAtOrder (start .places)) z, free-there (start .places) room)))
       ∙ same)))
     where
       placeAtOrder : List Place → ℕ → ℕ
       placeAtOrder places i = placeAt places i .order
 
-      free-there : placeAt (start .places) (placeOf (start .places) 0) .order ≡ 0
-      free-there = live-there (start .places) 0 (lt-ltb (placeOf (start .places) 0) slots room) .1
 
   -- and so nothing changes after it
   since : (m : ℕ) → j < m → m ≤ orderCount list → fold turn start m ≡ done
@@ -101,7 +93,7 @@ module _ (resting : ℕ → Bool) (list : List ℕ) (start : Seats) (j : ℕ) (o
 
   pub one-placed : seatedAll resting list start (orderCount list)
       ≡ record {
-        places = set (start .places) (placeOf (start .places) 0) (newPlace resting (orderAt list j) start);
+        places = set (start .places) (lowestFree (start .places)) (newPlace resting (orderAt list j) start);
         last = nextNumber resting (start .places) (start .last);
       }
   unfolding seatedAll
@@ -210,16 +202,16 @@ module _ (rest rows : ℕ) (enough : rest ≤ rows) (few : rows ≤ 11)
         ∙ in-turn
 
     -- it is the last one given, and the lowest free slot has it
-    pub given-again : (after .last ≡ number) × (at after (placeOf kept-now 0) .slot .number ≡ number) × (at after (placeOf kept-now 0) .order ≡ orderAt list j .number)
+    pub given-again : (after .last ≡ number) × (at after (lowestFree kept-now) .slot .number ≡ number) × (at after (lowestFree kept-now) .order ≡ orderAt list j .number)
     unfolding run stepOf
     given-again =
         let rooms = next-room rest rows enough few before s list f in
         let first : Seats = record { places = kept-now; last = before .last } in
         let e = one-placed resting list first j (one-kept (s .orderly) f one) (f .named) rooms in
-        let spare : placeOf kept-now 0 < slots = room resting list first j (one-kept (s .orderly) f one) (f .named) rooms in
+        let spare : lowestFree kept-now < slots = room resting list first j (one-kept (s .orderly) f one) (f .named) rooms in
         let there =
-        getD-set-same kept-now (placeOf kept-now 0) (newPlace resting (orderAt list j) first) freePlace (omega (arith, kept-orderly (s .orderly) f .twenty)) in (
+        getD-set-same kept-now (lowestFree kept-now) (newPlace resting (orderAt list j) first) freePlace (omega (arith, kept-orderly (s .orderly) f .twenty)) in (
           ap (λ (x : Seats). x .last) e ∙ gets,
-          ap (λ (x : Seats). placeAt (x .places) (placeOf kept-now 0) .slot .number) e ∙ (ap (λ (x : Place). x .slot .number) there ∙ gets),
-          ap (λ (x : Seats). placeAt (x .places) (placeOf kept-now 0) .order) e ∙ ap (λ (x : Place). x .order) there,
+          ap (λ (x : Seats). placeAt (x .places) (lowestFree kept-now) .slot .number) e ∙ (ap (λ (x : Place). x .slot .number) there ∙ gets),
+          ap (λ (x : Seats). placeAt (x .places) (lowestFree kept-now) .order) e ∙ ap (λ (x : Place). x .order) there,
         )

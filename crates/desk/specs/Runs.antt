@@ -1,11 +1,12 @@
 -- Runs of a desk: the accepted lists, the newest first. Theorems about several steps speak of runs; refused lists leave the desk
 -- as it is (D-18), so a run has none.
-use Prim.Native.Nat.{ℕ, zero, suc, _≤_}
+use Prim.Native.Nat.{ℕ, zero, suc, _<_, _≤_}
 use mathlib.Core.Path.{_≡_}
 use mathlib.Core.Bool.{true, false}
 use mathlib.Core.List.{List, [], _∷_}
-use Rattle.order_list.specs.Lists.{stands}
-use Rattle.places.specs.Places.{placeAt}
+use Rattle.order_list.specs.Lists.{orderAt, orderCount, stands}
+use Rattle.places.specs.Places.{placeAt, isLive}
+use Rattle.places.specs.declared.Place.{Place}
 use Rattle.orders.specs.Orders.{listRefusal}
 use Rattle.desk.specs.declared.Desk.{Desk}
 use Rattle.desk.specs.Desks.{freshWith}
@@ -38,3 +39,9 @@ EndedAgo rest rows (list ∷ earlier) number zero =
     let before = run rest rows earlier .places in
     (i : ℕ) × (1 ≤ placeAt before i .order) × (placeAt before i .slot .number ≡ number) × (stands list (placeAt before i .order) ≡ false)
 EndedAgo rest rows (list ∷ earlier) number (suc ago) = EndedAgo rest rows earlier number ago
+
+-- P5: of the orders of a list, one is new: order j
+pub record OneNew (places : List Place) (list : List ℕ) (j : ℕ) : Type 0 where
+  pub inlist : j < orderCount list
+  pub new : isLive places (orderAt list j .number) ≡ false
+  pub others : (k : ℕ) → k < orderCount list → (k ≡ j → ⊥) → isLive places (orderAt list k .number) ≡ true

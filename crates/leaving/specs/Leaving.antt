@@ -3,13 +3,12 @@
 use Prim.Native.Nat.{ℕ}
 use mathlib.Core.Bool.{Bool, cond, not, _&&_}
 use mathlib.Core.List.{List, _++_, map}
-use lib.Dec.{eqb}
 use lib.ListN.{length, take}
 use Rattle.condition.specs.Slots.{bodyOf}
 use Rattle.condition.specs.declared.slots.Body.{Body}
 use Rattle.order_list.specs.Lists.{orderAt, listedAt, isListed}
 use Rattle.order_list.specs.declared.Order.{Order}
-use Rattle.places.specs.Places.{freePlace}
+use Rattle.places.specs.Places.{freePlace, isFree}
 use Rattle.places.specs.declared.Place.{Place}
 use Rattle.resting.specs.Rests.{noneEnded}
 use Rattle.resting.specs.declared.Ended.{Ended}
@@ -35,7 +34,7 @@ keptPlace list n place =
 
 -- D-06: a live order absent from the list has ended
 abbrev pub ends : List ℕ → ℕ → Place → Bool
-ends list n place = not (eqb (place .order) 0) && not (stays list n place)
+ends list n place = not (isFree place) && not (stays list n place)
 
 -- D-06, D-12: its number, with the step in which it ended
 unfoldable pub endedEntry : List ℕ → ℕ → ℕ → Place → Ended

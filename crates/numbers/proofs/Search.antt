@@ -51,10 +51,10 @@ after-injective : (last i j : ℕ) → i < 255 → j < 255 → numberAfter last 
 after-injective last i j p q e = omega arith
 
 module _ (resting : ℕ → Bool) (places : List Place) where
-  permitted-when : (n : ℕ) → hasNumber places n ≡ false → resting n ≡ false → isPermitted resting places n ≡ true
+  pub permitted-when : (n : ℕ) → hasNumber places n ≡ false → resting n ≡ false → isPermitted resting places n ≡ true
   permitted-when n a b = rw (a, b) refl
 
-  permitted-only : (n : ℕ) → isPermitted resting places n ≡ true → (hasNumber places n ≡ false) × (resting n ≡ false)
+  pub permitted-only : (n : ℕ) → isPermitted resting places n ≡ true → (hasNumber places n ≡ false) × (resting n ≡ false)
   permitted-only n h = given (and-both _ _ h) (λ (a, b). (not-true _ a, not-true _ b))
 
   module _ (last : ℕ) where
@@ -65,13 +65,27 @@ module _ (resting : ℕ → Bool) (places : List Place) where
     number-first i p e before =
         scan-at (λ others. isPermitted resting places (numberAfter last others)) (numberAfter last) 0 0 255 i (omega arith) (omega arith) e (λ j a b. before j b)
 
-    -- where one of the 255 is permitted, the search ends at one that is
-    search-ends : (i : ℕ) → i < 255 → isPermitted resting places (numberAfter last i) ≡ true
-        → (j : ℕ) × (isPermitted resting places (numberAfter last j) ≡ true) × (nextNumber resting places last ≡ numberAfter last j)
+    -- D-09: a number is the first permitted one, after so many others that are not
+    pub record FirstPermitted (number : ℕ) : Type 0 where
+      pub others : ℕ
+      pub few : others < 255
+      pub after : number ≡ numberAfter last others
+      pub permitted : isPermitted resting places (numberAfter last others) ≡ true
+      pub passed : (j : ℕ) → j < others → isPermitted resting places (numberAfter last j) ≡ false
+
+    -- where one of the 255 is permitted, the search ends at the first that is
+    search-ends : (i : ℕ) → i < 255 → isPermitted resting places (numberAfter last i) ≡ true → FirstPermitted (nextNumber resting places last)
     search-ends i p e =
         let test : ℕ → Bool = λ others. isPermitted resting places (numberAfter last others) in
         given (found-there test 255 (found-when test 255 i p e))
-        (λ (q, t). (find test 255, t, number-first (find test 255) q t (λ j r. find-before test 255 j r)))
+        (λ (q, t).
+        record {
+          others = find test 255;
+          few = q;
+          after = number-first (find test 255) q t (λ j r. find-before test 255 j r);
+          permitted = t;
+          passed = λ j r. find-before test 255 j r;
+        })
 
 module _ (resting : ℕ → Bool) (kept : List ℕ) (covered : (n : ℕ) → resting n ≡ true → member n kept ≡ true) (few : length kept ≤ 220)
     (places : List Place) (twenty : length places ≡ slots) (last : ℕ) where
@@ -98,17 +112,17 @@ module _ (resting : ℕ → Bool) (kept : List ℕ) (covered : (n : ℕ) → res
       given permitted-exists
       (λ (i, p, e). on (ltb i k) (λ t. absurd (clash e (before i (ltb-true i k t)))) (λ t. omega (arith, ltb-false i k t)))
 
-  search-found : (j : ℕ) × (isPermitted resting places (numberAfter last j) ≡ true) × (nextNumber resting places last ≡ numberAfter last j)
+  pub search-found : FirstPermitted resting places last (nextNumber resting places last)
   search-found = given permitted-exists (λ (i, p, e). search-ends resting places last i p e)
 
   -- D-09: the search finds it
   pub number-permitted : isPermitted resting places (nextNumber resting places last) ≡ true
   number-permitted =
-      given search-found (λ (j, t, e). subst (λ (n : ℕ). isPermitted resting places n ≡ true) (sym e) t)
+      given search-found (λ found. subst (λ (n : ℕ). isPermitted resting places n ≡ true) (sym (found .after)) (found .permitted))
 
   -- D-10: a number from 1 to 255
   pub number-range : (1 ≤ nextNumber resting places last) × (nextNumber resting places last ≤ 255)
-  number-range = given search-found (λ (j, t, e). (omega (arith, e), omega (arith, e)))
+  number-range = given search-found (λ found. (omega (arith, found .after), omega (arith, found .after)))
 
   -- D-12: no live order has it, and it does not rest
   pub number-idle : (i : ℕ) → i < slots → placeAt places i .slot .number ≡ nextNumber resting places last → ⊥

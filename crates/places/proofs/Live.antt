@@ -1,19 +1,20 @@
--- What the search of an order's place answers; and that it is the search among the orders of the places.
-use Prim.Native.Nat.{ℕ, _<_}
-use mathlib.Core.Path.{_≡_}
-use mathlib.Core.Bool.{true, false}
+-- What the search of an order's place answers, and that of the lowest free place; and that the first is the search among the orders of
+-- the places.
+use Prim.Native.Nat.{ℕ, _<_, _≤_}
+use mathlib.Core.Path.{_≡_, refl}
+use mathlib.Core.Bool.{Bool, true, false}
 use mathlib.Core.List.{List}
 use lib.Dec.{eqb}
 use lib.ListN.{length}
 use native.Mathlib.Omega.{arith}
-use borrow.Author.Tests.{eqb-true, eqb-false, eq-eqb}
+use borrow.Author.Tests.{eqb-true, eqb-false, eq-eqb, lt-ltb, le-ltb}
 use Rattle.kit.proofs.Cases.{given}
-use Rattle.kit.proofs.Loops.{found-there, found-none, found-when}
+use Rattle.kit.proofs.Loops.{find-before, found-there, found-none, found-when}
 use Rattle.kit.proofs.Maps.{map-at}
 use Rattle.order_list.specs.Lists.{foundAt}
 use Rattle.order_list.proofs.Found.{found-as}
 use Rattle.condition.specs.Slots.{slots}
-use Rattle.places.specs.Places.{freePlace, placeAt, ordersOf, placeOf, isLive}
+use Rattle.places.specs.Places.{freePlace, placeAt, ordersOf, placeOf, isFree, lowestFree, isLive}
 use Rattle.places.specs.declared.Place.{Place}
 
 module _ (places : List Place) (o : ℕ) where
@@ -33,3 +34,26 @@ module _ (places : List Place) (o : ℕ) where
   unfolding placeOf
   found-live twenty =
       found-as (ordersOf places) (λ i. placeAt places i .order) (λ i p. map-at (λ (place : Place). place .order) places i freePlace 0 (omega (arith, twenty))) o
+
+-- ---- the lowest free place (D-08)
+
+module _ (places : List Place) where
+  abbrev free : ℕ → Bool
+  free i = isFree (placeAt places i)
+
+  -- order 0 stands for none, so the search of its place is this one
+  pub lowest-free : placeOf places 0 ≡ lowestFree places
+  unfolding placeOf lowestFree
+  lowest-free = refl
+
+  pub free-there : lowestFree places < slots → placeAt places (lowestFree places) .order ≡ 0
+  unfolding lowestFree
+  free-there p = eqb-true _ 0 (found-there free slots (lt-ltb (lowestFree places) slots p) .1)
+
+  pub free-before : (i : ℕ) → i < lowestFree places → 1 ≤ placeAt places i .order
+  unfolding lowestFree
+  free-before i p = omega (arith, eqb-false (placeAt places i .order) 0 (find-before free slots i p))
+
+  pub free-none : slots ≤ lowestFree places → (i : ℕ) → i < slots → 1 ≤ placeAt places i .order
+  unfolding lowestFree
+  free-none full i p = omega (arith, eqb-false (placeAt places i .order) 0 (found-none free slots i (le-ltb (lowestFree places) slots full) p))

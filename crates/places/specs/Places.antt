@@ -24,9 +24,13 @@ ordersOf places = map (λ (place : Place). place .order) places
 unfoldable pub placeOf : List Place → ℕ → ℕ
 placeOf places order = find (λ i. eqb (placeAt places i .order) order) slots
 
+-- D-06, D-08: no order has this place
+abbrev pub isFree : Place → Bool
+isFree place = eqb (place .order) 0
+
 -- D-08: the lowest free slot, or 20 where none is free
-abbrev pub lowestFree : List Place → ℕ
-lowestFree places = placeOf places 0
+unfoldable pub lowestFree : List Place → ℕ
+lowestFree places = find (λ i. isFree (placeAt places i)) slots
 
 -- A-01: an order is live: it has a place
 abbrev pub isLive : List Place → ℕ → Bool

@@ -10,10 +10,11 @@ use native.Mathlib.Omega.{arith}
 use borrow.Author.Needs.{needs}
 use borrow.Author.Tests.{lt-ltb, le-ltb}
 use Rattle.condition.specs.declared.slots.Body.{Body}
-use Rattle.places.specs.Places.{placeOf, isLive}
+use Rattle.places.specs.Places.{placeOf, lowestFree, isLive}
 use Rattle.condition.specs.Slots.{slots}
 use Rattle.order_list.specs.declared.Order.{Order}
 use Rattle.places.specs.declared.Place.{Place}
+use Rattle.places.proofs.Live.{lowest-free}
 use Rattle.resting.specs.Rests.{isResting}
 use Rattle.numbers.specs.Numbers.{nextNumber}
 use Rattle.leaving.specs.Leaving.{bodyIn}
@@ -39,13 +40,13 @@ abbrev with : Seats → Order → ℕ → ℕ → Body → Seats
 with seats order number at body = record { places = set (seats .places) at (placed order number body); last = number }
 
 wrote : (resting : ℕ → Bool) (order : Order) (seats : Seats) (number at : ℕ) (body : Body) → isLive (seats .places) (order .number) ≡ false
-    → number ≡ nextNumber resting (seats .places) (seats .last) → at ≡ placeOf (seats .places) 0 → body ≡ bodyIn order
+    → number ≡ nextNumber resting (seats .places) (seats .last) → at ≡ lowestFree (seats .places) → body ≡ bodyIn order
     → with seats order number at body ≡ seated resting order seats
 wrote resting order seats number at body new a b c = rw (a, b, c) (sym (seated-new resting order seats new))
 
 -- where no place is free, what is stored past the end changes none
 crowded : (resting : ℕ → Bool) (order : Order) (seats : Seats) (number at : ℕ) → isLive (seats .places) (order .number) ≡ false
-    → number ≡ nextNumber resting (seats .places) (seats .last) → at ≡ placeOf (seats .places) 0 → length (seats .places) ≤ at
+    → number ≡ nextNumber resting (seats .places) (seats .last) → at ≡ lowestFree (seats .places) → length (seats .places) ≤ at
     → _≡_ {A = Seats} (record { places = seats .places; last = number }) (seated resting order seats)
 crowded resting order seats number at new a b past =
     ap (λ (l : List Place). record { places = l; last = number }) (sym (set-out (seats .places) at (placed order number (bodyIn order)) past))
@@ -75,7 +76,7 @@ returns-2 c =
     let past : length (a .seats .places) ≤ c .before .place-of2 .result = omega (arith, twenty, c .if2 .taken) in
     crowded (isResting (a .rest) (a .step) (a .ended)) (a .order) (a .seats) _ _
     (unlive (a .order) (a .seats) _ (searched .place-of .ensures) (number .before .if1 .left))
-    (number .next-number .ensures) (c .before .place-of2 .ensures) past
+    (number .next-number .ensures) (c .before .place-of2 .ensures ∙ lowest-free (a .seats .places)) past
 
 body-of-requires : tie.Need-body-of-requires
 body-of-requires c κs = search needs
@@ -94,7 +95,7 @@ returns-3 c =
     let a = searched .before .before .args in
     wrote (isResting (a .rest) (a .step) (a .ended)) (a .order) (a .seats) _ _ _
     (unlive (a .order) (a .seats) _ (searched .place-of .ensures) (number .before .if1 .left))
-    (number .next-number .ensures) (found .place-of2 .ensures) (c .body-of .ensures)
+    (number .next-number .ensures) (found .place-of2 .ensures ∙ lowest-free (a .seats .places)) (c .body-of .ensures)
 
 pub seat-spec : {M : Type 1} → statement M
 seat-spec =

@@ -1,0 +1,170 @@
+-- What a step does. Document 01, "The list and the step":
+--
+--   "An accepted list makes one step:
+--   - The step number rises by one; 8,191 is followed by 0. A fresh desk is at step 0 with all slots empty. [..]
+--   - A live order absent from the list has ended and its slot is free. An order present keeps its slot and number and takes the new
+--     words.
+--   - New orders, in list order, take the lowest free slot and the first permitted number after the last one given. 255 is followed
+--     by 1; 0 is never given. A fresh desk gives 1 first.
+--   - A number is permitted if no live order has it and no order that had it ended in this step or in the seven accepted steps before.
+--     So eight tables in a row go without it. At most 160 numbers rest at once, hence a permitted one always exists and the desk never
+--     answers that it has no number.
+--   - An order that ends and comes back is new.
+--   An empty list is accepted and ends everything. A refused list makes no step and shortens no rest."
+--
+-- How a step is reckoned, the contracts say: by `stepOf` (desk/specs/Steps.antt) and, below it, `endedNumbers`, `seatedAll`, `lowestFree`
+-- and `nextNumber`. This page says what comes of it, without any of these: of the desk before the step, the list, and the desk after, by
+-- their slots, numbers and lists alone. It is said of the contract of `Desk::accept` (Functions.antt). proofs/Step.antt proves it.
+use Prim.Native.Nat.{ℕ, zero, suc, _+_, _<_, _≤_}
+use mathlib.Core.Path.{_≡_}
+use mathlib.Core.Logic.{_⊎_, _↔_}
+use mathlib.Core.Bool.{true}
+use mathlib.Core.List.{List, [], _∷_}
+use lib.ListN.{length, getD}
+use Rattle.wire.specs.Steps.{steps}
+use Rattle.wire.specs.declared.verdicts.Verdict.the-variants.{Accepted, Refused}
+use Rattle.condition.specs.Slots.{slots, codedOf, kindOf, settled}
+use Rattle.order_list.specs.Lists.{orderAt, orderCount}
+use Rattle.places.specs.Places.{freePlace, placeAt}
+use Rattle.resting.specs.Rests.{isResting}
+use Rattle.desk.specs.Desks.{rest as eight, Made}
+use Rattle.desk.specs.Runs.{InNewest, EndedAgo, OneNew}
+use Rattle.desk.specs.declared.Desk.{Desk}
+use Rattle.claims.specs.Calls.{deskAfter, accepted, stepsMade, deskOf, StoodIn}
+use Rattle.claims.specs.Functions.{OfFreshDesk, OfAccept}
+
+-- ---- what is spoken of
+
+-- A-01: an order has slot i of a desk's table
+abbrev pub HasSlot : Desk → ℕ → ℕ → Type 0
+HasSlot desk order i = (1 ≤ order) × (i < slots) × (placeAt (desk .places) i .order ≡ order)
+
+-- D-06: an order is live: it has a slot
+abbrev pub Live : Desk → ℕ → Type 0
+Live desk order = (i : ℕ) × HasSlot desk order i
+
+-- W-01: the number in slot i; 0 where it is empty
+abbrev pub numberIn : Desk → ℕ → ℕ
+numberIn desk i = placeAt (desk .places) i .slot .number
+
+-- D-01, D-06: an order is present in a list
+abbrev pub Present : List ℕ → ℕ → Type 0
+Present list order = (j : ℕ) × (j < orderCount list) × (orderAt list j .number ≡ order)
+
+-- D-08, D-16: order j of the list is new: it was not live before the step
+abbrev pub IsNew : Desk → List ℕ → ℕ → Type 0
+IsNew before list j = (j < orderCount list) × (Live before (orderAt list j .number) → ⊥)
+
+-- D-06, D-08: slot k is taken when order j of the list has its turn: an order has it that stays, or one that is new and stands earlier in
+-- the list. So the slots of those that have ended are free before the first new order has its turn.
+abbrev pub TakenAtTurn : Desk → List ℕ → Desk → ℕ → ℕ → Type 0
+TakenAtTurn before list after j k =
+    ((order : ℕ) × HasSlot before order k × Present list order)
+    ⊎ ((m : ℕ) × (m < j) × IsNew before list m × HasSlot after (orderAt list m .number) k)
+
+-- D-12: after these accepted lists, the newest first, an order that had the number ended in the newest of the steps or in one of the seven
+-- before it
+abbrev pub NumberRests : List (List ℕ) → ℕ → Type 0
+NumberRests lists number = (ago : ℕ) × (ago < eight) × EndedAgo eight eight lists number ago
+
+-- D-12: a number is permitted when order j has its turn: none of the orders that have a slot then has it, and it does not rest
+abbrev pub PermittedAtTurn : List (List ℕ) → Desk → List ℕ → Desk → ℕ → ℕ → Type 0
+PermittedAtTurn lists before list after j number =
+    ((k : ℕ) → TakenAtTurn before list after j k → numberIn after k ≡ number → ⊥) × (NumberRests (list ∷ lists) number → ⊥)
+
+-- D-09: the last number given when order j has its turn: that of the nearest new order before it in the list; where there is none, the last
+-- one given before this step
+pub data LastGiven (before : Desk) (list : List ℕ) (after : Desk) : ℕ → ℕ → Type 0 where
+  earlier : LastGiven before list after zero (before .last)
+  passing : {j last : ℕ} → LastGiven before list after j last → Live before (orderAt list j .number) → LastGiven before list after (suc j) last
+  giving : {j : ℕ} (i : ℕ) → IsNew before list j → HasSlot after (orderAt list j .number) i → LastGiven before list after (suc j) (numberIn after i)
+
+-- D-09, D-10: a number lies between the last one given and another, going round: 255 is followed by 1
+abbrev pub Between : ℕ → ℕ → ℕ → Type 0
+Between last number other = ((last < number) × (number < other)) ⊎ ((other ≤ last) × ((last < number) ⊎ (number < other)))
+
+-- ---- "New orders, in list order, take the lowest free slot and the first permitted number after the last one given."
+
+-- what order j of the list is given, if it is new
+pub record NewOrder (lists : List (List ℕ)) (before : Desk) (list : List ℕ) (after : Desk) (j : ℕ) : Type 0 where
+  -- D-08: a slot that is free at its turn, and no lower one is
+  pub slot : ℕ
+  pub has : HasSlot after (orderAt list j .number) slot
+  pub free : TakenAtTurn before list after j slot → ⊥
+  pub lowest : (k : ℕ) → k < slot → TakenAtTurn before list after j k
+  -- D-10: "0 is never given"
+  pub range : (1 ≤ numberIn after slot) × (numberIn after slot ≤ 255)
+  -- D-09, D-12: a number that is permitted at its turn, and none is that lies between the last one given and it
+  pub permitted : PermittedAtTurn lists before list after j (numberIn after slot)
+  pub last : ℕ
+  pub last-given : LastGiven before list after j last
+  pub first : (number : ℕ) → 1 ≤ number → number ≤ 255 → Between last number (numberIn after slot) → PermittedAtTurn lists before list after j number → ⊥
+
+-- ---- one step, the accepted lists before it standing the newest first
+
+pub record OneStep (lists : List (List ℕ)) (before : Desk) (list : List ℕ) (after : Desk) : Type 0 where
+  -- "The step number rises by one; 8,191 is followed by 0." (D-03)
+  pub rises : before .step + 1 < steps → after .step ≡ before .step + 1
+  pub round : before .step + 1 ≡ steps → after .step ≡ 0
+  pub below : after .step < steps
+
+  -- "A live order absent from the list has ended [..]. An order present keeps its slot and number and takes the new words."
+  -- D-06, D-08: the live orders are exactly the list's, and each has one slot
+  pub live : (order : ℕ) → Live after order ↔ Present list order
+  pub single : (order i k : ℕ) → HasSlot after order i → HasSlot after order k → i ≡ k
+  -- D-07, D-08, K-11: each has the list's type and words, a second word that is not considered held as zero
+  pub words : (j i : ℕ) → j < orderCount list → HasSlot after (orderAt list j .number) i
+      → let order = orderAt list j in
+      codedOf (placeAt (after .places) i .slot) ≡ settled (record { number = numberIn after i; kind = order .kind; first = order .first; second = order .second })
+  -- D-07: one that stays keeps slot, number and type
+  pub stays : (order i : ℕ) → HasSlot before order i → Present list order
+      → HasSlot after order i × (numberIn after i ≡ numberIn before i) × (kindOf (placeAt (after .places) i .slot) ≡ kindOf (placeAt (before .places) i .slot))
+
+  -- "New orders, in list order, take the lowest free slot and the first permitted number after the last one given." (D-08, D-09, D-10)
+  pub new : (j : ℕ) → IsNew before list j → NewOrder lists before list after j
+  pub last : LastGiven before list after (orderCount list) (after .last)
+  -- "A fresh desk gives 1 first." (D-11)
+  pub one-first : lists ≡ [] → 1 ≤ orderCount list → (i : ℕ) × HasSlot after (orderAt list 0 .number) i × (numberIn after i ≡ 1)
+
+  -- "[..] no order that had it ended in this step or in the seven accepted steps before": what the desk keeps of ended numbers says exactly
+  -- this (D-12, A-05)
+  pub rests : (number : ℕ) → 1 ≤ number → (isResting eight (after .step) (after .ended) number ≡ true) ↔ NumberRests (list ∷ lists) number
+
+  -- "An order that ends and comes back is new.": so is every order that is not in the accepted list before this one (D-16)
+  pub comes-back : (j : ℕ) → j < orderCount list → (InNewest (orderAt list j .number) lists → ⊥) → IsNew before list j
+
+  -- P5, for every step f: "Last given 255; number 1 ended in step f; one new order comes. In step f+7 it is passed over; if it comes in
+  -- step f+8 instead, it gets 1."
+  pub passed-over : EndedAgo eight eight lists 1 6 → (i : ℕ) → numberIn after i ≡ 1 → ⊥
+  pub gets-one : EndedAgo eight eight lists 1 7 → before .last ≡ 255 → (j : ℕ) → OneNew (before .places) list j
+      → (i : ℕ) × HasSlot after (orderAt list j .number) i × (numberIn after i ≡ 1)
+
+-- ---- all steps, the calls of a fresh desk standing the newest first
+
+pub record TheStep : Type 0 where
+  -- "A fresh desk is at step 0 with all slots empty." (D-04) It has given no number (D-11).
+  pub fresh : OfFreshDesk (λ desk. (desk .step ≡ 0) × (desk .last ≡ 0) × ((i : ℕ) → placeAt (desk .places) i ≡ freePlace))
+  -- R-26: a desk that a making and earlier calls gave is one that a fresh desk became by some calls
+  pub made : (desk : Desk) → Made desk ↔ ((calls : List (List ℕ)) × (desk ≡ deskAfter eight calls))
+  -- "An accepted list makes one step" (D-02)
+  pub steps-so : OfAccept (λ desk list answer. (calls : List (List ℕ)) → desk ≡ deskAfter eight calls → answer .verdict ≡ Accepted
+      → OneStep (accepted eight calls) desk list (answer .desk))
+
+  -- "So eight tables in a row go without it.": where an order has slot i in step n and is absent from the list of step n + 1, the tables
+  -- of steps n + 1 to n + 8 go without its number (D-13)
+  pub eight-tables : (calls : List (List ℕ)) (n order i : ℕ) → n + 1 ≤ stepsMade eight calls → HasSlot (deskOf eight calls n) order i
+      → (StoodIn eight calls order (n + 1) → ⊥)
+      → (m k : ℕ) → n + 1 ≤ m → m ≤ n + 8 → m ≤ stepsMade eight calls → numberIn (deskOf eight calls m) k ≡ numberIn (deskOf eight calls n) i → ⊥
+  -- "At most 160 numbers rest at once" (D-14): of numbers that rest, all different, there are no more
+  pub few-rest : (calls : List (List ℕ)) (numbers : List ℕ)
+      → ((i k : ℕ) → i < length numbers → k < length numbers → getD numbers i 0 ≡ getD numbers k 0 → i ≡ k)
+      → ((i : ℕ) → i < length numbers → NumberRests (accepted eight calls) (getD numbers i 0))
+      → length numbers ≤ 160
+  -- "hence a permitted one always exists" (D-15); that each new order finds one is `NewOrder`
+  pub one-permitted : (calls : List (List ℕ))
+      → (number : ℕ) × (1 ≤ number) × (number ≤ 255) × ((i : ℕ) → numberIn (deskAfter eight calls) i ≡ number → ⊥) × (NumberRests (accepted eight calls) number → ⊥)
+
+  -- "An empty list is accepted and ends everything." (D-17)
+  pub empty : OfAccept (λ desk list answer. Made desk → list ≡ [] → (answer .verdict ≡ Accepted) × ((i : ℕ) → placeAt (answer .desk .places) i ≡ freePlace))
+  -- "A refused list makes no step and shortens no rest." (D-18)
+  pub refused : OfAccept (λ desk list answer. (number : ℕ) → answer .verdict ≡ Refused number → answer .desk ≡ desk)
