@@ -18,7 +18,8 @@ use Rattle.desk.specs.Desks.{telegramOf}
 use Rattle.desk.proofs.Promises as desk-promises
 use Rattle.hand.specs.Sets.{begun}
 use Rattle.listener.specs.Listeners.{carries, holding, hearRows}
-use Rattle.listener.specs.declared.Answer.the-variants as Heard
+use Rattle.listener.specs.Answers.{Hearing, refusedAs}
+use Rattle.listener.proofs.Answers.{hearing-apart}
 use Rattle.listener.proofs.Promises as listener-promises
 use Rattle.signals.specs.Answers.{acceptance, absence, refusalUnder, Updating}
 use Rattle.signals.specs.Signals.{missedBy, updateOf}
@@ -41,13 +42,13 @@ telegrams =
     record {
       read-defined = λ κs handed answer other lasts others p q. (agree p q, refl);
       read-refused = λ κs (bytes, _) answer lasts p. subst⁻¹ (λ a. RefusedBy (readRows (bytes .now)) Refused (a .verdict)) p (reading-refused (bytes .now));
-      defined = λ κs handed answer other lasts others p q. (agree p q, refl);
+      defined = λ κs handed answer other lasts others p q. (hearing-apart answer other (agree p q), refl);
       refused = λ κs (listener, (telegram, _)) heard lasts p.
-          subst⁻¹ (λ h. RefusedBy (hearRows listener (telegram .now)) Heard.Refused (h .answer)) p (listener-promises.refused-when carries listener (telegram .now));
+          subst⁻¹ (λ (h : Hearing). RefusedBy (hearRows listener (telegram .now)) refusedAs (h .told)) p (listener-promises.refused-when carries listener (telegram .now));
       dropped = λ κs (listener, (telegram, _)) heard lasts p.
-          subst⁻¹ (λ h. h .answer ≡ Heard.Refused 15 → h .listener ≡ holding listener (begun 0)) p (listener-promises.fifteen-drops carries listener (telegram .now));
+          subst⁻¹ (λ (h : Hearing). h .told ≡ refusedAs 15 → h .listener ≡ holding listener (begun 0)) p (listener-promises.fifteen-drops carries listener (telegram .now));
       unchanged = λ κs (listener, (telegram, _)) heard lasts p.
-          subst⁻¹ (λ h. (number : ℕ) → (number ≡ 15 → ⊥) → h .answer ≡ Heard.Refused number → h .listener ≡ listener) p
+          subst⁻¹ (λ (h : Hearing). (number : ℕ) → (number ≡ 15 → ⊥) → h .told ≡ refusedAs number → h .listener ≡ listener) p
           (listener-promises.others-unchanged carries listener (telegram .now));
     }
 

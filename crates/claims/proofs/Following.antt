@@ -21,9 +21,8 @@ use Rattle.picture.specs.Pictures.{countOf, clashes}
 use Rattle.marks.specs.Marks.{marksOf}
 use Rattle.hand.specs.Sets.{begun, setFor, isHeld, joined, isWhole as isGathered}
 use Rattle.last_step.specs.LastSteps.{isLast, gapFrom}
-use Rattle.listener.specs.Listeners.{freshListener, holding, takenBy, takenAnswer, heardOf, hearOf}
-use Rattle.listener.specs.declared.Answer.the-variants.{Refused as refused, Taken}
-use Rattle.listener.specs.declared.Heard.{Heard}
+use Rattle.listener.specs.Listeners.{freshListener, holding, takenBy, toldOfTable, heardOf, hearOf}
+use Rattle.listener.specs.Answers.{Hearing, refusedAs, takenAs}
 use Rattle.last_step.specs.declared.Last.the-variants.{Step}
 use Rattle.last_step.proofs.Taken.{never-last, never-gap, same-last, other-last, step-gap}
 use Rattle.listener.specs.declared.Listener.{Listener}
@@ -81,8 +80,8 @@ module _ (rest limit : ℕ) {Message : Type 0} (binding : Binding Message) (call
     hand : InHand r (l .hand)
 
   -- one telegram more: the listener follows, and the answer is the one expected
-  Follows : Item Message → List (Item Message) → Heard → Type 0
-  Follows item r h = Rel (item ∷ r) (h .listener) × (h .answer ≡ expected rest limit binding calls item r)
+  Follows : Item Message → List (Item Message) → Hearing → Type 0
+  Follows item r h = Rel (item ∷ r) (h .listener) × (h .told ≡ expected rest limit binding calls item r)
 
   -- ---- a repeat of the last whole table
 
@@ -226,7 +225,7 @@ module _ (rest limit : ℕ) {Message : Type 0} (binding : Binding Message) (call
         table-is : with-it .slots ≡ T n
         table-is = gathered-table gathered twenty (whole-is ∙ whole)
 
-        answer-is : takenAnswer l with-it ≡ Taken (n % steps) (countOf (T n)) (distance rest limit binding calls (wholes r) n)
+        answer-is : toldOfTable l with-it ≡ takenAs (n % steps) (countOf (T n)) (distance rest limit binding calls (wholes r) n)
         answer-is = rw (gathered .own-step, table-is, gap-is l (v .shown)) refl
 
         shown-taken : Shown (n ∷ wholes r) (takenBy limit l with-it)
@@ -342,7 +341,7 @@ module _ (rest limit : ℕ) {Message : Type 0} (binding : Binding Message) (call
     following r (damaged {earlier} other number h e) =
         let l : Listener = listenerAfter rest limit binding calls earlier in
         let v : Rel earlier l = following earlier h .0 in
-        subst (Follows (spoilt other) earlier) (sym (hear-refused limit l (binding .read other) number e)) (record { shown = v .shown; hand = hand-spoilt other earlier (l .hand) (v .hand) }, ap (λ t. refused (numberOf t)) (sym e))
+        subst (Follows (spoilt other) earlier) (sym (hear-refused limit l (binding .read other) number e)) (record { shown = v .shown; hand = hand-spoilt other earlier (l .hand) (v .hand) }, ap (λ t. refusedAs (numberOf t)) (sym e))
 
     pub shown : (r : List (Item Message)) → Premises rest limit binding calls r → Shown (wholes r) (listenerAfter rest limit binding calls r)
     shown r h = following r h .0 .shown

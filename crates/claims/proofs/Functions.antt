@@ -18,11 +18,13 @@ use Rattle.desk.specs.Desks.{rest, freshDesk, acceptOf, tableOf, telegramOf}
 use Rattle.desk.specs.declared.Answer.{Answer}
 use Rattle.desk.specs.declared.Desk.{Desk}
 use Rattle.listener.specs.Listeners.{carries, freshListener, hearOf}
+use Rattle.listener.specs.Answers.{hearingOf}
 use Rattle.listener.specs.declared.Heard.{Heard}
 use Rattle.listener.specs.declared.Listener.{Listener}
 use Rattle.signals.specs.Signals.{updateOf}
 use Rattle.signals.specs.declared.Answer as Train
 use Rattle.signals.specs.declared.Signals.{Signals}
+use Rattle.signals.specs.Answers.{notedOf, updatingOf}
 use Rattle.signals.specs.declared.Updated.{Updated}
 use Rattle.claims.specs.Functions.{OfDistance, OfRead, OfWriteTelegram, OfFreshDesk, OfAccept, OfTable, OfWrite, OfFreshListener, OfHear, OfUpdate, OfUpdateLent}
 
@@ -88,14 +90,14 @@ write-says Such = (
 -- ---- where an answer is an enum: of each answer that the contract's equation allows
 
 pub hear-says : (Such : Listener → List ℕ → Heard → Type 0)
-    → OfHear Such ↔ ((listener : Listener) (telegram : List ℕ) (heard : Heard) → heard ≡ hearOf carries listener (readOf telegram) → Such listener telegram heard)
+    → OfHear Such ↔ ((listener : Listener) (telegram : List ℕ) (heard : Heard) → hearingOf heard ≡ hearOf carries listener (readOf telegram) → Such listener telegram heard)
 hear-says Such = (
   λ promised listener telegram heard p. promised ([], tt) (listener, (lent telegram, tt)) heard (tt, (tt, tt)) p,
   λ plain κs (listener, (telegram, _)) heard lasts p. plain listener (telegram .now) heard p,
 )
 
 pub update-says : (Such : Signals → Bool → List ℕ → Updated → Type 0)
-    → OfUpdate Such ↔ ((signals : Signals) (present : Bool) (telegram : List ℕ) (updated : Updated) → updated ≡ updateOf signals present telegram → Such signals present telegram updated)
+    → OfUpdate Such ↔ ((signals : Signals) (present : Bool) (telegram : List ℕ) (updated : Updated) → updatingOf updated ≡ updateOf signals present telegram → Such signals present telegram updated)
 update-says Such = (
   λ promised signals present telegram updated p. promised ([], tt) (signals, (present, (lent telegram, tt))) updated (tt, (tt, (tt, tt))) p,
   λ plain κs (signals, (present, (telegram, _))) updated lasts p. plain signals present (telegram .now) updated p,
@@ -105,7 +107,7 @@ update-says Such = (
 -- model of the machine
 pub update-lent-says : (Such : Signals → Bool → List ℕ → Train.Answer → Signals → Type 0)
     → ((signals : Signals) (present : Bool) (telegram : List ℕ) (answer : Train.Answer) (after : Signals)
-    → answer ≡ updateOf signals present telegram .answer → after ≡ updateOf signals present telegram .signals → Such signals present telegram answer after)
+    → notedOf answer ≡ updateOf signals present telegram .noted → after ≡ updateOf signals present telegram .signals → Such signals present telegram answer after)
     → OfUpdateLent Such
 update-lent-says Such plain M 𝓤 H A mem run κs (held, (present, (telegram, _))) ghost answer (after, _) =
     fact-mono 𝓤 _ _ (λ p. plain (held .now) present (telegram .now) answer after (p .0) (p .1))

@@ -21,8 +21,8 @@ use Rattle.kit.specs.Ladder.{Decides, Silent}
 use Rattle.wire.specs.declared.verdicts.Verdict.the-variants.{Refused}
 use Rattle.telegram.specs.Telegrams.{readRows, writeRows}
 use Rattle.orders.specs.Orders.{listRows}
+use Rattle.listener.specs.Answers.{refusedAs, toldOf}
 use Rattle.listener.specs.Listeners.{holding, hearRows}
-use Rattle.listener.specs.declared.Answer.the-variants as Heard
 use Rattle.train_codes.specs.Refusals.{trainRows}
 use Rattle.desk.proofs.Desk.accept as accept
 use Rattle.desk_writer.proofs.write as write
@@ -54,10 +54,10 @@ pub record Telegrams : Type 0 where
   pub read-refused : OfRead (λ bytes reading. RefusedBy (readRows bytes) Refused (reading .verdict))
   -- M-1b, M-1d, R-10 to R-15, R-20, R-21: hearing
   pub defined : OneAnswer hear.ended hear.Reads.Learnt
-  pub refused : OfHear (λ listener telegram heard. RefusedBy (hearRows listener telegram) Heard.Refused (heard .answer))
+  pub refused : OfHear (λ listener telegram heard. RefusedBy (hearRows listener telegram) refusedAs (toldOf (heard .answer)))
   -- M-1f, L-10, L-11, R-24: 15 drops the set in hand, and no other refusal changes the listener
-  pub dropped : OfHear (λ listener telegram heard. heard .answer ≡ Heard.Refused 15 → heard .listener ≡ holding listener (begun 0))
-  pub unchanged : OfHear (λ listener telegram heard. (number : ℕ) → (number ≡ 15 → ⊥) → heard .answer ≡ Heard.Refused number → heard .listener ≡ listener)
+  pub dropped : OfHear (λ listener telegram heard. toldOf (heard .answer) ≡ refusedAs 15 → heard .listener ≡ holding listener (begun 0))
+  pub unchanged : OfHear (λ listener telegram heard. (number : ℕ) → (number ≡ 15 → ⊥) → toldOf (heard .answer) ≡ refusedAs number → heard .listener ≡ listener)
 
 -- ---- and those from the train: `Signals::update(signals, present, telegram)`
 

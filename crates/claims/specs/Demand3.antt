@@ -19,6 +19,7 @@ use lib.ListN.{length}
 use Rattle.wire.specs.declared.verdicts.Verdict.the-variants.{Accepted}
 use Rattle.telegram.specs.Telegrams.{bytesOf, readOf}
 use Rattle.desk.specs.Desks.{rest as eight, freshWith, acceptOf, telegramOf, Made}
+use Rattle.listener.specs.Answers.{hearingOf}
 use Rattle.listener.specs.Listeners.{carries, freshListener, hearOf, markAt}
 use Rattle.listener.specs.declared.Listener.{Listener}
 use Rattle.claims.specs.Calls.{deskAfter, stepsMade}
@@ -103,7 +104,7 @@ pub record TheFunctions : Type 0 where
   -- R-09, R-10: each of the five packets is accepted into a buffer of 26 bytes
   pub writes-five : OfWrite (λ desk packet buffer verdict after. 3 ≤ packet → packet ≤ 7 → length buffer ≡ 26 → verdict ≡ Accepted)
   pub fresh-listener : OfFreshListener (λ listener. listener ≡ freshListener)
-  pub hears : OfHear (λ listener telegram heard. heard ≡ hearOf carries listener (fleetBinding .read telegram))
+  pub hears : OfHear (λ listener telegram heard. hearingOf heard ≡ hearOf carries listener (fleetBinding .read telegram))
 
 -- M-3: of every sequence of lists handed to a fresh desk, and of everything heard so: after each telegram, and for any length of service
 abbrev pub InEveryRun : ((calls : List (List ℕ)) → List (Item (List ℕ)) → Type 0) → Type 0

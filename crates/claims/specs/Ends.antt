@@ -21,8 +21,7 @@ use Rattle.telegram.specs.declared.Telegram.{Telegram}
 use Rattle.desk.specs.Desks.{telegramOf}
 use Rattle.picture.specs.Pictures.{countOf}
 use Rattle.listener.specs.Listeners.{freshListener, hearOf, markAt}
-use Rattle.listener.specs.declared.Answer.{Answer}
-use Rattle.listener.specs.declared.Answer.the-variants.{Refused as refused, Repeat, Held, Taken}
+use Rattle.listener.specs.Answers.{Told, refusedAs, asRepeat, asHeld, takenAs}
 use Rattle.last_step.specs.declared.Last.{Last}
 use Rattle.last_step.specs.declared.Last.the-variants.{Never, Step}
 use Rattle.listener.specs.declared.Listener.{Listener}
@@ -50,8 +49,8 @@ module _ (rest limit : ℕ) {Message : Type 0} (binding : Binding Message) (call
   listenerAfter (item ∷ earlier) = hearOf limit (listenerAfter earlier) (binding .read (message item)) .listener
 
   -- M-1b: and what it answers to one telegram more
-  abbrev pub answerTo : Item Message → List (Item Message) → Answer
-  answerTo item earlier = hearOf limit (listenerAfter earlier) (binding .read (message item)) .answer
+  abbrev pub answerTo : Item Message → List (Item Message) → Told
+  answerTo item earlier = hearOf limit (listenerAfter earlier) (binding .read (message item)) .told
 
   -- ---- "Let telegrams be lost or repeated, step order kept, each one heard coming at most 8,191 steps after the last table heard
   -- whole (before any, after the first telegram heard)."
@@ -110,12 +109,12 @@ module _ (rest limit : ℕ) {Message : Type 0} (binding : Binding Message) (call
 
   -- L-01 to L-04: a telegram that was heard before is a repeat; one that makes its table whole is answered with that table's step
   -- number, its conditions and the distance; any other is held. None that the desk sent is refused.
-  abbrev pub expected : Item Message → List (Item Message) → Answer
+  abbrev pub expected : Item Message → List (Item Message) → Told
   expected (sent n p) earlier =
-      cond (wasHeard earlier n p) Repeat
-      (cond (isWhole (sent n p ∷ earlier) n) (Taken (n % steps) (countOf (tableIn rest calls n)) (distance (wholes earlier) n))
-      Held)
-  expected (spoilt other) earlier = refused (numberOf (binding .read other .verdict))
+      cond (wasHeard earlier n p) asRepeat
+      (cond (isWhole (sent n p ∷ earlier) n) (takenAs (n % steps) (countOf (tableIn rest calls n)) (distance (wholes earlier) n))
+      asHeld)
+  expected (spoilt other) earlier = refusedAs (numberOf (binding .read other .verdict))
 
   abbrev pub Answered : List (Item Message) → Type 0
   Answered [] = Unit

@@ -25,8 +25,7 @@ use Rattle.picture.specs.Pictures.{countOf, hasNumber, isTwice, clashes}
 use Rattle.marks.specs.Marks.{isSame, isKnown, isCarried, marksOf}
 use Rattle.listener.specs.Listeners.{carries, heardAll, freshListener, takenBy, heardOf, hearOf}
 use Rattle.hand.specs.Sets.{begun, setFor, isHeld, joined, isWhole}
-use Rattle.listener.specs.declared.Answer.{Answer}
-use Rattle.listener.specs.declared.Answer.the-variants.{Repeat, Held, Taken}
+use Rattle.listener.specs.Answers.{Told, asRepeat, asHeld, takenAs}
 use Rattle.claims.specs.Calls.{tableIn}
 use Rattle.claims.specs.Demand3.{vehicle, LostOrRepeated}
 use Rattle.claims.specs.Hearings.{Item, sent, wholes}
@@ -36,8 +35,8 @@ use Rattle.reckoned.specs.Standing.{standing, then-five, answers}
 use Rattle.reckoned.proofs.Standing.{Within, said, stood, fived, wire, answering, wires, fiveWires, same-listener, same-answers, said-wires, standing-made, desk-five, desk-before-five}
 
 -- a table taken with its fifth packet, after others
-abbrev taken : ℕ → ℕ → ℕ → List Answer → List Answer
-taken step conditions gap earlier = Taken step conditions gap ∷ Held ∷ Held ∷ Held ∷ Held ∷ earlier
+abbrev taken : ℕ → ℕ → ℕ → List Told → List Told
+taken step conditions gap earlier = takenAs step conditions gap ∷ asHeld ∷ asHeld ∷ asHeld ∷ asHeld ∷ earlier
 
 abbrev heard : List ℕ → List (Item (List ℕ))
 heard steps = wholly (List ℕ) steps
@@ -64,8 +63,8 @@ computed : (answering (wires (8209 ∷ 18 ∷ 9 ∷ 1 ∷ [])) ≡ taken 17 1 81
     × (heardAll carries (wires (8209 ∷ 18 ∷ 9 ∷ 1 ∷ [])) .marks ≡ none-marked)
     × (answering (wires (8194 ∷ 1 ∷ [])) ≡ taken 2 1 1 (taken 1 1 0 []))
     × (heardAll carries (wires (8194 ∷ 1 ∷ [])) .marks ≡ one-marked)
-    × (answering (fiveWires (fived 1) (wires (1 ∷ []))) ≡ Repeat ∷ Repeat ∷ Repeat ∷ Repeat ∷ Repeat ∷ taken 1 1 0 [])
-    × (answering (fiveWires (fived 1) (wire (stood 1) 3 ∷ [])) ≡ Taken 1 2 0 ∷ Held ∷ Held ∷ Held ∷ Repeat ∷ Held ∷ [])
+    × (answering (fiveWires (fived 1) (wires (1 ∷ []))) ≡ asRepeat ∷ asRepeat ∷ asRepeat ∷ asRepeat ∷ asRepeat ∷ taken 1 1 0 [])
+    × (answering (fiveWires (fived 1) (wire (stood 1) 3 ∷ [])) ≡ takenAs 1 2 0 ∷ asHeld ∷ asHeld ∷ asHeld ∷ asRepeat ∷ asHeld ∷ [])
 unfolding answering heardAll wires hearOf heardOf ladder setFor begun isHeld joined isWhole count fold takenBy marksOf isCarried isKnown isSame scan clashes isTwice hasNumber countOf freshListener readOf verdictOf readRows each codedAt takenBefore slotRows secondAllowed secondHeld isConsidered telegramOf bodyOf bytesOf sixOf codedOf fourOf tableOf deskTelegram gapOf
 computed = (refl, refl, refl, refl, refl, refl, refl, refl)
 
@@ -108,12 +107,12 @@ said-stale : map (said (then-five 8192)) (fiveOf 8193 (sent 1 3 ∷ [])) ≡ fiv
 said-stale = ap₂ (λ new old. fiveWires new (wire old 3 ∷ [])) (desk-five 8191) (desk-before-five 8191 1 (omega arith) (omega arith))
 
 -- 8,192 steps from the last whole table: the five telegrams of step 8,193 are taken for repeats of step 1, and its table is not taken
-pub table-missed : answers (then-five 8192) (heard (8193 ∷ 1 ∷ [])) ≡ Repeat ∷ Repeat ∷ Repeat ∷ Repeat ∷ Repeat ∷ taken 1 1 0 []
+pub table-missed : answers (then-five 8192) (heard (8193 ∷ 1 ∷ [])) ≡ asRepeat ∷ asRepeat ∷ asRepeat ∷ asRepeat ∷ asRepeat ∷ taken 1 1 0 []
 table-missed = same-answers (then-five 8192) (heard (8193 ∷ 1 ∷ [])) ∙ (ap answering said-missed ∙ computed .6)
 
 -- 8,192 steps from the first telegram, packet 3 of step 1: that packet is kept as one of step 8,193, whose own packet 3 is called a
 -- repeat. The table taken has two conditions, and that of step 8,193 has five: a picture that never was
-pub table-mixed : (answers (then-five 8192) (fiveOf 8193 (sent 1 3 ∷ [])) ≡ Taken 1 2 0 ∷ Held ∷ Held ∷ Held ∷ Repeat ∷ Held ∷ []) × (countOf (tableIn rest (then-five 8192) 8193) ≡ 5)
+pub table-mixed : (answers (then-five 8192) (fiveOf 8193 (sent 1 3 ∷ [])) ≡ takenAs 1 2 0 ∷ asHeld ∷ asHeld ∷ asHeld ∷ asRepeat ∷ asHeld ∷ []) × (countOf (tableIn rest (then-five 8192) 8193) ≡ 5)
 unfolding countOf count fold tableOf
 table-mixed = (
   same-answers (then-five 8192) (fiveOf 8193 (sent 1 3 ∷ [])) ∙ (ap answering said-stale ∙ computed .7),

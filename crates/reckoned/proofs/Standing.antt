@@ -34,7 +34,7 @@ use Rattle.claims.specs.Hearings.{Item}
 use Rattle.claims.specs.Regular.{wholly}
 use Rattle.telegram.specs.Telegrams.{readOf, bytesOf}
 use Rattle.listener.specs.Listeners.{carries, heardAll, hearOf}
-use Rattle.listener.specs.declared.Answer.{Answer}
+use Rattle.listener.specs.Answers.{Told}
 use Rattle.claims.proofs.History.{accepted-more, up-to-before, up-to-all}
 use Rattle.reckoned.specs.Reckoned.{order, orders}
 use Rattle.reckoned.specs.Standing.{standing, then-five, answers}
@@ -129,9 +129,9 @@ module _ (k : ℕ) where
 -- ---- the listener on messages
 
 -- its answers to these bytes, the newest first
-unfoldable pub answering : List (List ℕ) → List Answer
+unfoldable pub answering : List (List ℕ) → List Told
 answering [] = []
-answering (bytes ∷ earlier) = hearOf carries (heardAll carries earlier) (readOf bytes) .answer ∷ answering earlier
+answering (bytes ∷ earlier) = hearOf carries (heardAll carries earlier) (readOf bytes) .told ∷ answering earlier
 
 -- packet p of a desk's table
 abbrev pub wire : Desk → ℕ → List ℕ
@@ -149,7 +149,7 @@ module _ (calls : List (List ℕ)) where
   pub same-answers : (heard : List (Item (List ℕ))) → answers calls heard ≡ answering (map said heard)
   unfolding answers answering
   same-answers [] = refl
-  same-answers (item ∷ heard) = ap₂ (λ l a. hearOf carries l (readOf (said item)) .answer ∷ a) (same-listener heard) (same-answers heard)
+  same-answers (item ∷ heard) = ap₂ (λ l a. hearOf carries l (readOf (said item)) .told ∷ a) (same-listener heard) (same-answers heard)
 
 -- the five packets of a desk's table
 abbrev pub fiveWires : Desk → List (List ℕ) → List (List ℕ)

@@ -5,7 +5,7 @@ use mathlib.Core.List.{List, [], _∷_}
 use lib.ListN.{replicate}
 use Rattle.desk.specs.Desks.{rest}
 use Rattle.listener.specs.Listeners.{carries}
-use Rattle.listener.specs.declared.Answer.{Answer}
+use Rattle.listener.specs.Answers.{Told}
 use Rattle.claims.specs.Demand3.{fleetBinding}
 use Rattle.claims.specs.Ends.{answerTo}
 use Rattle.claims.specs.Hearings.{Item}
@@ -20,6 +20,6 @@ unfoldable pub then-five : ℕ → List (List ℕ)
 then-five k = orders 5 1 ∷ standing k
 
 -- the answers of the listener that heard these, the newest first
-unfoldable pub answers : List (List ℕ) → List (Item (List ℕ)) → List Answer
+unfoldable pub answers : List (List ℕ) → List (Item (List ℕ)) → List Told
 answers calls [] = []
 answers calls (item ∷ earlier) = answerTo rest carries fleetBinding calls item earlier ∷ answers calls earlier
