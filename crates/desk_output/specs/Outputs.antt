@@ -1,6 +1,7 @@
 -- What the program run_desk writes.
 use Prim.Native.Nat.{ℕ}
-use mathlib.Core.List.{List, [], _∷_, _++_}
+use mathlib.Core.List.{List, _++_}
+use Rattle.kit.specs.Text.{ascii}
 use Rattle.text.specs.Decimals.{decimal}
 use Rattle.text.specs.Words.{refusedWord}
 use Rattle.telegram.specs.Telegrams.{bytesOf}
@@ -13,14 +14,14 @@ tableBytes desk =
     bytesOf (telegramOf desk 3)
     ++ (bytesOf (telegramOf desk 4) ++ (bytesOf (telegramOf desk 5) ++ (bytesOf (telegramOf desk 6) ++ bytesOf (telegramOf desk 7))))
 
--- " at list "
+-- between the number of a refusal and that of the list
 abbrev pub atListWords : List ℕ
-atListWords = 32 ∷ 97 ∷ 116 ∷ 32 ∷ 108 ∷ 105 ∷ 115 ∷ 116 ∷ 32 ∷ []
+atListWords = ascii " at list "
 
 -- `refused N at list I` and a line feed
 unfoldable pub refusedLine : ℕ → ℕ → List ℕ
-refusedLine number list = refusedWord ++ (decimal number ++ (atListWords ++ (decimal list ++ (10 ∷ []))))
+refusedLine number list = refusedWord ++ (decimal number ++ (atListWords ++ (decimal list ++ ascii "\n")))
 
--- `short list` and a line feed
+-- where the input ends inside a list
 unfoldable pub shortLine : List ℕ
-shortLine = 115 ∷ 104 ∷ 111 ∷ 114 ∷ 116 ∷ 32 ∷ 108 ∷ 105 ∷ 115 ∷ 116 ∷ 10 ∷ []
+shortLine = ascii "short list\n"

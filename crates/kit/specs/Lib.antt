@@ -7,3 +7,4 @@ pub mod Ladder
 pub mod Loops
 pub mod Member
 pub mod Put
+pub mod Text

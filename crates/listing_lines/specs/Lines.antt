@@ -1,16 +1,17 @@
 -- The lines of a listing: document 01, "Listing program". Words have single blanks between them, and a line ends with a line feed (A-35).
 use Prim.Native.Nat.{ℕ}
-use mathlib.Core.List.{List, [], _∷_, _++_}
+use mathlib.Core.List.{List, _++_}
+use Rattle.kit.specs.Text.{ascii}
 use Rattle.text.specs.Words.{refusedWord}
 use Rattle.listing_words.specs.Words.{blank, lineFeed, numberThen}
 
 -- G-02: the first line, `conditions 1`
 unfoldable pub headerLine : List ℕ
-headerLine = 99 ∷ 111 ∷ 110 ∷ 100 ∷ 105 ∷ 116 ∷ 105 ∷ 111 ∷ 110 ∷ 115 ∷ 32 ∷ 49 ∷ 10 ∷ []
+headerLine = ascii "conditions 1\n"
 
--- "table "
+-- G-03
 abbrev pub tableWord : List ℕ
-tableWord = 116 ∷ 97 ∷ 98 ∷ 108 ∷ 101 ∷ 32 ∷ []
+tableWord = ascii "table "
 
 -- G-03: `table S K G`: step, conditions, gap
 unfoldable pub tableLine : ℕ → ℕ → ℕ → List ℕ
@@ -20,9 +21,9 @@ tableLine step count gap = tableWord ++ (numberThen step blank ++ (numberThen co
 unfoldable pub refusedLine : ℕ → List ℕ
 refusedLine number = refusedWord ++ numberThen number lineFeed
 
--- "end "
+-- G-09
 abbrev pub endWord : List ℕ
-endWord = 101 ∷ 110 ∷ 100 ∷ 32 ∷ []
+endWord = ascii "end "
 
 -- G-09: the last line, `end T`: T tables taken
 unfoldable pub endLine : ℕ → List ℕ

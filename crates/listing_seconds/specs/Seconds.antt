@@ -1,5 +1,6 @@
 -- What the second word of a condition says in a listing: document 01, "Listing program", the third and the fifth sentence.
 use Prim.Native.Nat.{ℕ}
+use Prim.Native.Char.{code}
 use mathlib.Core.Bool.{cond}
 use mathlib.Core.List.{List, [], _∷_, _++_}
 use lib.Dec.{eqb}
@@ -9,9 +10,9 @@ use Rattle.condition.specs.declared.slots.Body.{Body}
 use Rattle.condition.specs.declared.slots.Body.the-variants.{Empty, Area, Traction, Current}
 use Rattle.listing_words.specs.Words.{numberThen, minus, distanceWord}
 
--- "/"
+-- G-06: between voltage and country
 abbrev pub stroke : ℕ
-stroke = 47
+stroke = code "/"
 
 -- G-06: for type 4 `voltage/country`, and `-` when the change distance is missing
 unfoldable pub systemWord : ℕ → ℕ → ℕ → List ℕ

@@ -1,25 +1,27 @@
 -- The words of a listing: document 01, "Listing program", the third and the fourth sentence.
 use Prim.Native.Nat.{ℕ}
+use Prim.Native.Char.{code}
 use mathlib.Core.Bool.{Bool, cond}
 use mathlib.Core.List.{List, [], _∷_, _++_}
+use Rattle.kit.specs.Text.{ascii}
 use Rattle.text.specs.Decimals.{decimal}
 use Rattle.wire.specs.Distances.{distanceOf}
 use Rattle.wire.specs.declared.distances.Distance.{Distance}
 use Rattle.wire.specs.declared.distances.Distance.the-variants.{Missing, Metres, Below}
 
 abbrev pub blank : ℕ
-blank = 32
+blank = code " "
 
 abbrev pub lineFeed : ℕ
-lineFeed = 10
+lineFeed = code "\n"
 
 -- A-35: a number in decimal, and one byte after it: a blank or a line feed
 abbrev pub numberThen : ℕ → ℕ → List ℕ
 numberThen number after = decimal number ++ (after ∷ [])
 
--- "-": the sign of a number below zero, and the word for a missing distance (G-05)
+-- the sign of a number below zero, and the word for a missing distance (G-05)
 abbrev pub minus : ℕ
-minus = 45
+minus = code "-"
 
 -- G-05, K-06, K-07: metres in decimal, below zero with a minus sign; a missing distance is `-`
 abbrev pub metresWord : Distance → List ℕ
@@ -31,12 +33,12 @@ metresWord (Below metres) = minus ∷ decimal metres
 unfoldable pub distanceWord : ℕ → List ℕ
 distanceWord word = metresWord (distanceOf word)
 
--- "new" and "carried" (G-04)
+-- G-04
 abbrev pub newWord : List ℕ
-newWord = 110 ∷ 101 ∷ 119 ∷ []
+newWord = ascii "new"
 
 abbrev pub carriedWord : List ℕ
-carriedWord = 99 ∷ 97 ∷ 114 ∷ 114 ∷ 105 ∷ 101 ∷ 100 ∷ []
+carriedWord = ascii "carried"
 
 -- G-04: `new` or `carried`
 abbrev pub markWord : Bool → List ℕ

@@ -326,7 +326,7 @@ packed-first words s =
 pub hex-flag : (d : ℕ) → 48 + d + boolByte (leb 10 d) * 39 ≡ hexDigit d
 hex-flag d =
     on (leb 10 d)
-    (λ e. rw (e, le-ltb d 10 (leb-true 10 d e)) (omega arith))
+    (λ e. rw (e, le-ltb d 10 (leb-true 10 d e)) (omega (arith, leb-true 10 d e)))
     (λ e. rw (e, lt-ltb d 10 (leb-false 10 d e)) (omega arith))
 
 -- the two digits of a byte

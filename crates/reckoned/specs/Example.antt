@@ -1,7 +1,8 @@
 -- The example of document 01, "Listing program": its input and the whole of its output (G-10).
 use Prim.Native.Nat.{ℕ}
-use mathlib.Core.List.{List, [], _∷_, _++_}
+use mathlib.Core.List.{List, _∷_, _++_}
 use lib.ListN.{replicate}
+use Rattle.kit.specs.Text.{ascii}
 
 -- `60 01 01 03 04 B0 05 DC` and 18 zero bytes; then `80 01`, `A0 01`, `C0 01`, `E0 01`, each with 24 zero bytes
 unfoldable pub recording : List ℕ
@@ -12,10 +13,6 @@ recording =
     ++ ((0xC0 ∷ 0x01 ∷ replicate 24 0)
     ++ (0xE0 ∷ 0x01 ∷ replicate 24 0))))
 
--- `conditions 1`, `table 1 1 0`, `0 1 3 1200 1500 new`, `end 1`, each with a line feed
+-- the four lines of the output
 unfoldable pub text : List ℕ
-text =
-    (99 ∷ 111 ∷ 110 ∷ 100 ∷ 105 ∷ 116 ∷ 105 ∷ 111 ∷ 110 ∷ 115 ∷ 32 ∷ 49 ∷ 10 ∷ [])
-    ++ ((116 ∷ 97 ∷ 98 ∷ 108 ∷ 101 ∷ 32 ∷ 49 ∷ 32 ∷ 49 ∷ 32 ∷ 48 ∷ 10 ∷ [])
-    ++ ((48 ∷ 32 ∷ 49 ∷ 32 ∷ 51 ∷ 32 ∷ 49 ∷ 50 ∷ 48 ∷ 48 ∷ 32 ∷ 49 ∷ 53 ∷ 48 ∷ 48 ∷ 32 ∷ 110 ∷ 101 ∷ 119 ∷ 10 ∷ [])
-    ++ (101 ∷ 110 ∷ 100 ∷ 32 ∷ 49 ∷ 10 ∷ [])))
+text = ascii "conditions 1\ntable 1 1 0\n0 1 3 1200 1500 new\nend 1\n"

@@ -1,22 +1,23 @@
 -- "Reckoned by hand": the cases of document 01 as rows of one table, each what the definitions give beside what the paper says.
 use Prim.Native.Nat.{ℕ, zero, suc, _+_, _*_, _/_, _%_}
-use mathlib.Core.Bool.{true}
+use mathlib.Core.Bool.{true, cond}
+use mathlib.Core.Path.{_≡_}
 use mathlib.Core.List.{List, [], _∷_, _++_, map}
 use lib.ListN.{replicate, getD}
 use Rattle.kit.specs.Each.{each}
 use Rattle.wire.specs.Steps.{gapOf}
+use Rattle.wire.specs.Verdicts.{numberOf}
 use Rattle.wire.specs.declared.verdicts.Verdict.the-variants.{Accepted, Refused}
 use Rattle.condition.specs.Slots.{emptySlot}
 use Rattle.condition.specs.declared.slots.Body.{Body}
-use Rattle.condition.specs.declared.slots.Body.the-variants.{Traction, Current}
+use Rattle.condition.specs.declared.slots.Body.the-variants as Body′
 use Rattle.condition.specs.declared.slots.Slot.{Slot}
 use Rattle.telegram.specs.Telegrams.{blank, readOf, bytesOf}
 use Rattle.telegram.specs.declared.Reading.{Reading}
 use Rattle.telegram.specs.declared.Telegram.{Telegram}
-use Rattle.orders.specs.Orders.{listRefusal}
 use Rattle.places.specs.declared.Place.{Place}
 use Rattle.desk.specs.Desks.{rest, freshDesk, acceptOf, tableOf}
-use Rattle.desk.specs.Runs.{run}
+use Rattle.claims.specs.Calls.{deskAfter, stepsMade}
 use Rattle.train_telegram.specs.States.{systemWith}
 use Rattle.train_codes.specs.declared.Brake.{Brake}
 use Rattle.train_codes.specs.declared.Brake.the-variants.{PassengerInP, Unknown}
@@ -26,8 +27,10 @@ use Rattle.train_codes.specs.declared.Cab.the-variants.{None, A}
 use Rattle.train_codes.specs.declared.Cab.the-variants as Cab′
 use Rattle.train_codes.specs.declared.Isolation.the-variants.{Isolated, NotIsolated}
 use Rattle.train_telegram.specs.declared.states.National.{National}
-use Rattle.train_codes.specs.declared.Traction.the-variants.{Supported}
 use Rattle.signals.specs.Answers.{acceptance, Updating}
+use Rattle.train_codes.specs.Codes.{isSupported}
+use Rattle.train_codes.specs.declared.Traction.{Traction}
+use Rattle.train_codes.specs.declared.Traction.the-variants.{Supported, Silent}
 use Rattle.signals.specs.Signals.{signalsWith, freshSignals, updateOf}
 
 -- ---- lists of orders, all of type 1
@@ -56,9 +59,10 @@ empty k = replicate k []
 
 -- ---- what is looked at
 
--- the numbers of the twenty slots after a run, 0 for an empty slot
-unfoldable pub numbers : List (List ℕ) → List ℕ
-numbers lists = map (λ (p : Place). p .slot .number) (run rest rest lists .places)
+-- a fresh desk that is handed these lists, the newest first: how many steps it has made, which is as many as there are lists where it
+-- accepted each, and then the numbers of its twenty slots, 0 for an empty one
+unfoldable pub stepAndNumbers : List (List ℕ) → List ℕ
+stepAndNumbers lists = stepsMade rest lists ∷ map (λ (p : Place). p .slot .number) (deskAfter rest lists .places)
 
 -- k numbers from n on
 unfoldable pub from : ℕ → ℕ → List ℕ
@@ -69,13 +73,17 @@ from (suc k) n = n ∷ from k (n + 1)
 unfoldable pub alone : ℕ → List ℕ
 alone n = n ∷ replicate 19 0
 
--- the refusal of a list by a fresh desk
+-- the number under which a fresh desk refuses a list, 0 where it accepts it
 unfoldable pub refusal : List ℕ → List ℕ
-refusal list = listRefusal (freshDesk .places) list ∷ []
+refusal list = numberOf (acceptOf rest freshDesk list .verdict) ∷ []
 
--- P5: order 1 has number 1 and stays while others use up the numbers to 255. In step 15 it ends; that is f.
+-- P5: order 1 has number 1 and stays while others use up the numbers to 255
 unfoldable pub to-255 : List (List ℕ)
-to-255 = [] ∷ ((order 1 ++ orders 7 900) ∷ one-stays 13)
+to-255 = (order 1 ++ orders 7 900) ∷ one-stays 13
+
+-- P5: in step 15 it ends; that is f
+unfoldable pub one-ended : List (List ℕ)
+one-ended = [] ∷ to-255
 
 -- A-05: number 1 ends in step 2; by step 13 the last number given is 255
 unfoldable pub before-the-wrap : List (List ℕ)
@@ -120,6 +128,15 @@ refuses number = record { verdict = Refused number; telegram = blank }
 unfoldable pub received : List ℕ → Updating
 received telegram = updateOf freshSignals true telegram
 
+-- P7: `01 02 03 80 01 7F FE 00 00 00 06` and 15 zeros
+unfoldable pub p7-telegram : List ℕ
+p7-telegram = 0x01 ∷ 0x02 ∷ 0x03 ∷ 0x80 ∷ 0x01 ∷ 0x7F ∷ 0xFE ∷ 0x00 ∷ 0x00 ∷ 0x00 ∷ 0x06 ∷ replicate 15 0
+
+-- the traction systems that a state has as supported, of all 32 bits of the list
+unfoldable pub supportedIn : Traction → List ℕ
+supportedIn (Supported systems) = each (λ system. cond (isSupported systems system) (system ∷ []) []) 0 32
+supportedIn Silent = []
+
 -- accepted, with these states
 unfoldable pub showing : Cab → Brake → List National → ℕ → Updating
 showing cab brake national systems =
@@ -141,23 +158,35 @@ pub data Row : Type 0 where
   slots-are : Slot → Slot → Row
   signals-are : Updating → Updating → Row
 
+-- what the definitions give is what the paper says
+abbrev pub Holds : Row → Type 0
+Holds (numbers-are defined written) = defined ≡ written
+Holds (readings-are defined written) = defined ≡ written
+Holds (slots-are defined written) = defined ≡ written
+Holds (signals-are defined written) = defined ≡ written
+
+-- C-10: every row of a table holds
+abbrev pub AllHold : List Row → Type 0
+AllHold [] = Unit
+AllHold (row ∷ rows) = Holds row × AllHold rows
+
 -- P5 after the wrap (A-05): number 1 ended in step 2, and in step 8,197 it is given
 abbrev pub p5-wrap : Row
-p5-wrap = numbers-are (numbers (orders 1 1000 ∷ (empty 8183 ++ before-the-wrap))) (alone 1)
+p5-wrap = numbers-are (stepAndNumbers (orders 1 1000 ∷ (empty 8183 ++ before-the-wrap))) (8197 ∷ alone 1)
 
 abbrev pub short-rows : List Row
 short-rows =
     -- P1: voltage 1, country 33: second word 0211h, written, read and ordered
-    numbers-are (bytesOf (carrying (filled (Traction 0 33 1)))) (wire 4 0 0x0211)
-    ∷ readings-are (readOf (wire 4 0 0x0211)) (reads (Traction 0 33 1))
+    numbers-are (bytesOf (carrying (filled (Body′.Traction 0 33 1)))) (wire 4 0 0x0211)
+    ∷ readings-are (readOf (wire 4 0 0x0211)) (reads (Body′.Traction 0 33 1))
     ∷ numbers-are (refusal (ordering 4 0 0x0211)) (0 ∷ [])
-    ∷ slots-are (heldFirst (ordering 4 0 0x0211)) (filled (Traction 0 33 1))
+    ∷ slots-are (heldFirst (ordering 4 0 0x0211)) (filled (Body′.Traction 0 33 1))
     -- P1: voltage 6: refusal 6, of the telegram and of the list
     ∷ readings-are (readOf (wire 4 0 0x0216)) (refuses 6)
     ∷ numbers-are (refusal (ordering 4 0 0x0216)) (6 ∷ [])
     -- P2: limit 1000 and 1023 accepted
-    ∷ readings-are (readOf (wire 5 0 1000)) (reads (Current 0 1000))
-    ∷ readings-are (readOf (wire 5 0 1023)) (reads (Current 0 1023))
+    ∷ readings-are (readOf (wire 5 0 1000)) (reads (Body′.Current 0 1000))
+    ∷ readings-are (readOf (wire 5 0 1023)) (reads (Body′.Current 0 1023))
     ∷ numbers-are (refusal (ordering 5 0 1000)) (0 ∷ [])
     ∷ numbers-are (refusal (ordering 5 0 1023)) (0 ∷ [])
     -- P2: 1001 and 1022 refused
@@ -166,29 +195,34 @@ short-rows =
     ∷ numbers-are (refusal (ordering 5 0 1001)) (6 ∷ [])
     ∷ numbers-are (refusal (ordering 5 0 1022)) (6 ∷ [])
     -- P2: with change 8000h all accepted and held as zero, by the reader and by the desk
-    ∷ readings-are (readOf (wire 5 0x8000 1000)) (reads (Current 0x8000 0))
-    ∷ readings-are (readOf (wire 5 0x8000 1023)) (reads (Current 0x8000 0))
-    ∷ readings-are (readOf (wire 5 0x8000 1001)) (reads (Current 0x8000 0))
-    ∷ readings-are (readOf (wire 5 0x8000 1022)) (reads (Current 0x8000 0))
-    ∷ slots-are (heldFirst (ordering 5 0x8000 1000)) (filled (Current 0x8000 0))
-    ∷ slots-are (heldFirst (ordering 5 0x8000 1023)) (filled (Current 0x8000 0))
-    ∷ slots-are (heldFirst (ordering 5 0x8000 1001)) (filled (Current 0x8000 0))
-    ∷ slots-are (heldFirst (ordering 5 0x8000 1022)) (filled (Current 0x8000 0))
+    ∷ readings-are (readOf (wire 5 0x8000 1000)) (reads (Body′.Current 0x8000 0))
+    ∷ readings-are (readOf (wire 5 0x8000 1023)) (reads (Body′.Current 0x8000 0))
+    ∷ readings-are (readOf (wire 5 0x8000 1001)) (reads (Body′.Current 0x8000 0))
+    ∷ readings-are (readOf (wire 5 0x8000 1022)) (reads (Body′.Current 0x8000 0))
+    ∷ slots-are (heldFirst (ordering 5 0x8000 1000)) (filled (Body′.Current 0x8000 0))
+    ∷ slots-are (heldFirst (ordering 5 0x8000 1023)) (filled (Body′.Current 0x8000 0))
+    ∷ slots-are (heldFirst (ordering 5 0x8000 1001)) (filled (Body′.Current 0x8000 0))
+    ∷ slots-are (heldFirst (ordering 5 0x8000 1022)) (filled (Body′.Current 0x8000 0))
     -- P3: the gap from 8,190 to 3 is 5; from 0 to 8,191 it is 8,191
     ∷ numbers-are (gapOf 3 8190 ∷ []) (5 ∷ [])
     ∷ numbers-are (gapOf 8191 0 ∷ []) (8191 ∷ [])
     -- P4: twenty wholly new orders every step: step 12 gives 221 to 240, step 13 gives 241 to 255 and then 1 to 5
-    ∷ numbers-are (numbers (wholly-new 12)) (from 20 221)
-    ∷ numbers-are (numbers (wholly-new 13)) (from 15 241 ++ from 5 1)
-    -- P5: in step f + 7 number 1 is passed over; if the order comes in step f + 8 instead, it gets 1
-    ∷ numbers-are (numbers (orders 1 1000 ∷ (empty 6 ++ to-255))) (alone 2)
-    ∷ numbers-are (numbers (orders 1 1000 ∷ (empty 7 ++ to-255))) (alone 1)
+    ∷ numbers-are (stepAndNumbers (wholly-new 12)) (12 ∷ from 20 221)
+    ∷ numbers-are (stepAndNumbers (wholly-new 13)) (13 ∷ (from 15 241 ++ from 5 1))
+    -- P5: last given 255; number 1 ended in step f, which is 15
+    ∷ numbers-are (stepAndNumbers to-255) (14 ∷ 1 ∷ (from 7 249 ++ replicate 12 0))
+    ∷ numbers-are (stepAndNumbers one-ended) (15 ∷ replicate 20 0)
+    -- P5: one new order comes. In step f + 7 number 1 is passed over; if it comes in step f + 8 instead, it gets 1
+    ∷ numbers-are (stepAndNumbers (orders 1 1000 ∷ (empty 6 ++ one-ended))) (22 ∷ alone 2)
+    ∷ numbers-are (stepAndNumbers (orders 1 1000 ∷ (empty 7 ++ one-ended))) (23 ∷ alone 1)
     -- P6: length 205: refusal 1; length 210: refusal 2; length 0: accepted
     ∷ numbers-are (refusal (replicate 205 0)) (1 ∷ [])
     ∷ numbers-are (refusal (replicate 210 0)) (2 ∷ [])
     ∷ numbers-are (refusal []) (0 ∷ [])
-    -- P7: cab A, brake position unknown, systems 1 and 16 isolated, the rest not, traction systems 1 and 2 (bits 1 and 2)
-    ∷ signals-are (received (1 ∷ 2 ∷ 3 ∷ 0x80 ∷ 1 ∷ 0x7F ∷ 0xFE ∷ 0 ∷ 0 ∷ 0 ∷ 6 ∷ replicate 15 0))
+    -- P7: traction systems 1 and 2
+    ∷ numbers-are (supportedIn (received p7-telegram .signals .states .traction)) (1 ∷ 2 ∷ [])
+    -- P7: cab A, brake position unknown, systems 1 and 16 isolated, the rest not, and these traction systems (bits 1 and 2)
+    ∷ signals-are (received p7-telegram)
     (showing A Unknown (isolated ∷ (replicate 14 notIsolated ++ (isolated ∷ []))) (2 + 4))
     -- P8: cab bits 11: invalid; brake position 4: invalid. The other signals have their own states.
     ∷ signals-are (received (1 ∷ 3 ∷ 0 ∷ 0 ∷ 0 ∷ 0xFF ∷ 0xFF ∷ replicate 19 0)) (showing Cab′.Invalid PassengerInP (replicate 16 notIsolated) 0)

@@ -3,6 +3,7 @@ use Prim.Native.Nat.{ℕ}
 use mathlib.Core.List.{List, [], _∷_, _++_}
 use lib.ListN.{getD}
 use Rattle.kit.specs.Each.{each}
+use Rattle.kit.specs.Text.{ascii}
 use Rattle.text.specs.Decimals.{decimal}
 use Rattle.text.specs.Words.{refusedWord}
 use Rattle.state_words.specs.Words.{blank, cabWord, brakeWord, isolationWord, tractionWord}
@@ -12,13 +13,12 @@ use Rattle.train_telegram.specs.declared.states.National.{National}
 use Rattle.train_telegram.specs.declared.states.States.{States}
 use Rattle.signals.specs.Answers.{Receipt, was-accepted, was-missed, was-refused, Noted, Updating}
 
--- "accepted"
+-- S-13, S-14: the words of an answer
 abbrev pub accepted : List ℕ
-accepted = 97 ∷ 99 ∷ 99 ∷ 101 ∷ 112 ∷ 116 ∷ 101 ∷ 100 ∷ []
+accepted = ascii "accepted"
 
--- "missed"
 abbrev pub missed : List ℕ
-missed = 109 ∷ 105 ∷ 115 ∷ 115 ∷ 101 ∷ 100 ∷ []
+missed = ascii "missed"
 
 -- ---- the line
 
@@ -51,6 +51,6 @@ stateWords states =
 unfoldable pub lineOf : Updating → List ℕ
 lineOf updating = answerWords (updating .noted) ++ (missesWord (updating .signals .misses) ++ (stateWords (updating .signals .states) ++ (10 ∷ [])))
 
--- "short call" and a line feed
+-- where the input ends inside a call
 unfoldable pub shortLine : List ℕ
-shortLine = 115 ∷ 104 ∷ 111 ∷ 114 ∷ 116 ∷ 32 ∷ 99 ∷ 97 ∷ 108 ∷ 108 ∷ 10 ∷ []
+shortLine = ascii "short call\n"

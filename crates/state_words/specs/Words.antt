@@ -1,6 +1,8 @@
 -- The words for the states of signals, each with the blank before it.
 use Prim.Native.Nat.{ℕ}
-use mathlib.Core.List.{List, [], _∷_}
+use Prim.Native.Char.{code}
+use mathlib.Core.List.{List, _∷_}
+use Rattle.kit.specs.Text.{ascii}
 use Rattle.text.specs.Hexadecimals.{hexadecimal}
 use Rattle.train_codes.specs.declared.Brake.{Brake}
 use Rattle.train_codes.specs.declared.Brake.the-variants as Brake′
@@ -12,51 +14,45 @@ use Rattle.train_codes.specs.declared.Traction.{Traction}
 use Rattle.train_codes.specs.declared.Traction.the-variants as Traction′
 
 abbrev pub blank : ℕ
-blank = 32
+blank = code " "
 
--- " silent"
+-- S-16
 abbrev pub silent : List ℕ
-silent = 32 ∷ 115 ∷ 105 ∷ 108 ∷ 101 ∷ 110 ∷ 116 ∷ []
+silent = ascii " silent"
 
--- " invalid"
+-- S-12
 abbrev pub invalid : List ℕ
-invalid = 32 ∷ 105 ∷ 110 ∷ 118 ∷ 97 ∷ 108 ∷ 105 ∷ 100 ∷ []
+invalid = ascii " invalid"
 
--- " none"
+-- S-09
 abbrev pub none : List ℕ
-none = 32 ∷ 110 ∷ 111 ∷ 110 ∷ 101 ∷ []
+none = ascii " none"
 
--- " A"
 abbrev pub cabA : List ℕ
-cabA = 32 ∷ 65 ∷ []
+cabA = ascii " A"
 
--- " B"
 abbrev pub cabB : List ℕ
-cabB = 32 ∷ 66 ∷ []
+cabB = ascii " B"
 
--- " passenger-P"
+-- S-10
 abbrev pub passengerP : List ℕ
-passengerP = 32 ∷ 112 ∷ 97 ∷ 115 ∷ 115 ∷ 101 ∷ 110 ∷ 103 ∷ 101 ∷ 114 ∷ 45 ∷ 80 ∷ []
+passengerP = ascii " passenger-P"
 
--- " freight-P"
 abbrev pub freightP : List ℕ
-freightP = 32 ∷ 102 ∷ 114 ∷ 101 ∷ 105 ∷ 103 ∷ 104 ∷ 116 ∷ 45 ∷ 80 ∷ []
+freightP = ascii " freight-P"
 
--- " freight-G"
 abbrev pub freightG : List ℕ
-freightG = 32 ∷ 102 ∷ 114 ∷ 101 ∷ 105 ∷ 103 ∷ 104 ∷ 116 ∷ 45 ∷ 71 ∷ []
+freightG = ascii " freight-G"
 
--- " unknown"
 abbrev pub unknown : List ℕ
-unknown = 32 ∷ 117 ∷ 110 ∷ 107 ∷ 110 ∷ 111 ∷ 119 ∷ 110 ∷ []
+unknown = ascii " unknown"
 
--- " isolated"
+-- S-11
 abbrev pub isolated : List ℕ
-isolated = 32 ∷ 105 ∷ 115 ∷ 111 ∷ 108 ∷ 97 ∷ 116 ∷ 101 ∷ 100 ∷ []
+isolated = ascii " isolated"
 
--- " not-isolated"
 abbrev pub notIsolated : List ℕ
-notIsolated = 32 ∷ 110 ∷ 111 ∷ 116 ∷ 45 ∷ 105 ∷ 115 ∷ 111 ∷ 108 ∷ 97 ∷ 116 ∷ 101 ∷ 100 ∷ []
+notIsolated = ascii " not-isolated"
 
 -- S-09
 abbrev pub cabWord : Cab → List ℕ

@@ -1,12 +1,13 @@
 -- Numbers in decimal.
 use Prim.Native.Nat.{ℕ, zero, suc, _+_, _/_, _%_}
+use Prim.Native.Char.{code}
 use mathlib.Core.Bool.{cond}
 use mathlib.Core.List.{List, [], _∷_, _++_}
 use lib.Dec.{ltb}
 
 -- A-35: the last digit, in ASCII
 abbrev pub digit : ℕ → List ℕ
-digit n = (48 + n % 10) ∷ []
+digit n = (code "0" + n % 10) ∷ []
 
 -- A-35: all digits, the last one after those of a tenth of the number, but for no leading zero; `most` is as many digits as there can be
 -- before the last

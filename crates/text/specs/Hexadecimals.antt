@@ -1,12 +1,13 @@
 -- Numbers in hexadecimal.
-use Prim.Native.Nat.{ℕ, zero, suc, _+_, _/_, _%_}
+use Prim.Native.Nat.{ℕ, zero, suc, _+_, _-_, _/_, _%_}
+use Prim.Native.Char.{code}
 use mathlib.Core.Bool.{cond}
 use mathlib.Core.List.{List, [], _∷_, _++_}
 use lib.Dec.{ltb}
 
 -- one digit in ASCII: 0 to 9, then a to f in lower case
 abbrev pub hexDigit : ℕ → ℕ
-hexDigit digit = cond (ltb digit 10) (48 + digit) (87 + digit)
+hexDigit digit = cond (ltb digit 10) (code "0" + digit) (code "a" + (digit - 10))
 
 -- so many digits, leading zeros too: the last one after those of a sixteenth of the number
 unfoldable pub hexadecimal : ℕ → ℕ → List ℕ

@@ -1,7 +1,8 @@
 -- Words that more than one program writes.
 use Prim.Native.Nat.{ℕ}
-use mathlib.Core.List.{List, [], _∷_}
+use mathlib.Core.List.{List}
+use Rattle.kit.specs.Text.{ascii}
 
--- "refused " (G-07)
+-- G-07
 abbrev pub refusedWord : List ℕ
-refusedWord = 114 ∷ 101 ∷ 102 ∷ 117 ∷ 115 ∷ 101 ∷ 100 ∷ 32 ∷ []
+refusedWord = ascii "refused "

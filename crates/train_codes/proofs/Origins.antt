@@ -8,6 +8,7 @@ use native.Mathlib.Omega.{arith}
 use borrow.Author.Tests.{ne-eqb, ltb-true, ltb-false}
 use Rattle.kit.specs.Ladder.{ladder}
 use Rattle.kit.proofs.Cases.{on}
+use Rattle.train_codes.proofs.Bits.{bits-same}
 use Rattle.train_codes.specs.Codes.{cabOf, brakeOf, isolationOf}
 use Rattle.train_codes.specs.Origins.{CabCode, BrakeCode, IsolationCode, TractionCode}
 use Rattle.train_codes.specs.declared.Brake.{Brake}
@@ -91,8 +92,8 @@ isolation-exactly isolated inverse = exactly (λ state. IsolationCode state isol
 
 -- S-07
 pub traction-exactly : (list : ℕ) (state : Traction) → (Traction′.Supported list ≡ state) ↔ TractionCode state list
-traction-exactly list = exactly (λ state. TractionCode state list) (Traction′.Supported list) refl one
+traction-exactly list = exactly (λ state. TractionCode state list) (Traction′.Supported list) (λ system. refl) one
   where
     one : (state : Traction) → TractionCode state list → Traction′.Supported list ≡ state
-    one (Traction′.Supported systems) e = ap Traction′.Supported e
+    one (Traction′.Supported systems) e = ap Traction′.Supported (bits-same list systems (λ i. sym (e i)))
     one Traction′.Silent code = absurd code

@@ -3,6 +3,7 @@ use Prim.Native.Nat.{ℕ}
 use mathlib.Core.Bool.{Bool, true, false}
 use mathlib.Core.List.{[], _∷_}
 use lib.Dec.{eqb}
+use Rattle.kit.specs.Bytes.{bit}
 use Rattle.kit.specs.Ladder.{ladder}
 use Rattle.train_codes.specs.declared.Brake.{Brake}
 use Rattle.train_codes.specs.declared.Brake.the-variants as Brake′
@@ -34,3 +35,8 @@ isolationOf true false = Isolation′.Isolated
 isolationOf false true = Isolation′.NotIsolated
 isolationOf true true = Isolation′.Invalid
 isolationOf false false = Isolation′.Invalid
+
+-- S-07, A-27: whether a system stands in a list of supported traction systems: bit 1 of the list is system 1, and so on to system 31; bit 0
+-- is of no system
+abbrev pub isSupported : ℕ → ℕ → Bool
+isSupported systems system = bit system systems

@@ -3,6 +3,8 @@
 use Prim.Native.Nat.{ℕ, _≤_}
 use mathlib.Core.Bool.{Bool, true, false}
 use mathlib.Core.Path.{_≡_}
+use Rattle.kit.specs.Bytes.{bit}
+use Rattle.train_codes.specs.Codes.{isSupported}
 use Rattle.train_codes.specs.declared.Brake.{Brake}
 use Rattle.train_codes.specs.declared.Brake.the-variants as Brake′
 use Rattle.train_codes.specs.declared.Cab.{Cab}
@@ -36,7 +38,7 @@ IsolationCode Isolation′.NotIsolated isolated inverse = (isolated ≡ false) �
 IsolationCode Isolation′.Invalid isolated inverse = isolated ≡ inverse
 IsolationCode Isolation′.Silent isolated inverse = ⊥
 
--- S-07, A-27: every list is one; no code is invalid
+-- S-07: by the bits of the list: each system is supported exactly where its own bit is set; A-27: no code is invalid
 abbrev pub TractionCode : Traction → ℕ → Type 0
-TractionCode (Traction′.Supported systems) list = list ≡ systems
+TractionCode (Traction′.Supported systems) list = (system : ℕ) → isSupported systems system ≡ bit system list
 TractionCode Traction′.Silent list = ⊥
