@@ -6,6 +6,7 @@ pub mod Ends
 pub mod Following
 pub mod Functions
 pub mod History
+pub mod OneStep
 pub mod Regular
 pub mod Sequences
 pub mod Step

@@ -83,7 +83,32 @@ pub data LastGiven (before : Desk) (list : List ℕ) (after : Desk) : ℕ → �
 abbrev pub Between : ℕ → ℕ → ℕ → Type 0
 Between last number other = ((last < number) × (number < other)) ⊎ ((other ≤ last) × ((last < number) ⊎ (number < other)))
 
--- ---- "New orders, in list order, take the lowest free slot and the first permitted number after the last one given."
+-- ---- "The step number rises by one; 8,191 is followed by 0."
+
+pub record StepCounts (before after : Desk) : Type 0 where
+  -- D-03
+  pub rises : before .step + 1 < steps → after .step ≡ before .step + 1
+  pub round : before .step + 1 ≡ steps → after .step ≡ 0
+  pub below : after .step < steps
+
+-- ---- "A live order absent from the list has ended and its slot is free. An order present keeps its slot and number and takes the new
+-- words."
+
+pub record OrdersStay (before : Desk) (list : List ℕ) (after : Desk) : Type 0 where
+  -- D-06 to D-08: the live orders are exactly the list's; each has one slot, and a slot that none has is empty
+  pub live : (order : ℕ) → Live after order ↔ Present list order
+  pub single : (order i k : ℕ) → HasSlot after order i → HasSlot after order k → i ≡ k
+  pub empty : (i : ℕ) → ((order : ℕ) → HasSlot after order i → ⊥) → placeAt (after .places) i ≡ freePlace
+  -- D-07: one that stays keeps slot, number and type
+  pub stays : (order i : ℕ) → HasSlot before order i → Present list order
+      → HasSlot after order i × (numberIn after i ≡ numberIn before i) × (kindOf (placeAt (after .places) i .slot) ≡ kindOf (placeAt (before .places) i .slot))
+  -- D-07, D-08, K-11: each has the list's type and words, a second word that is not considered held as zero
+  pub words : (j i : ℕ) → j < orderCount list → HasSlot after (orderAt list j .number) i
+      → let order = orderAt list j in
+      codedOf (placeAt (after .places) i .slot) ≡ settled (record { number = numberIn after i; kind = order .kind; first = order .first; second = order .second })
+
+-- ---- "New orders, in list order, take the lowest free slot and the first permitted number after the last one given. 255 is followed by
+-- 1; 0 is never given. A fresh desk gives 1 first."
 
 -- what order j of the list is given, if it is new
 pub record NewOrder (lists : List (List ℕ)) (before : Desk) (list : List ℕ) (after : Desk) (j : ℕ) : Type 0 where
@@ -92,52 +117,42 @@ pub record NewOrder (lists : List (List ℕ)) (before : Desk) (list : List ℕ) 
   pub has : HasSlot after (orderAt list j .number) slot
   pub free : TakenAtTurn before list after j slot → ⊥
   pub lowest : (k : ℕ) → k < slot → TakenAtTurn before list after j k
-  -- D-10: "0 is never given"
+  -- D-09, D-10, D-12: a number from 1 to 255 that is permitted at its turn, and none is that lies between the last one given and it
   pub range : (1 ≤ numberIn after slot) × (numberIn after slot ≤ 255)
-  -- D-09, D-12: a number that is permitted at its turn, and none is that lies between the last one given and it
   pub permitted : PermittedAtTurn lists before list after j (numberIn after slot)
   pub last : ℕ
   pub last-given : LastGiven before list after j last
   pub first : (number : ℕ) → 1 ≤ number → number ≤ 255 → Between last number (numberIn after slot) → PermittedAtTurn lists before list after j number → ⊥
 
+pub record OrdersArrive (lists : List (List ℕ)) (before : Desk) (list : List ℕ) (after : Desk) : Type 0 where
+  -- D-08 to D-10, D-12
+  pub new : (j : ℕ) → IsNew before list j → NewOrder lists before list after j
+  -- D-09: and the next step goes on from the last number that this one gave
+  pub last : LastGiven before list after (orderCount list) (after .last)
+  -- D-11: where no list was accepted before
+  pub one-first : lists ≡ [] → 1 ≤ orderCount list → (i : ℕ) × HasSlot after (orderAt list 0 .number) i × (numberIn after i ≡ 1)
+  -- D-16: "An order that ends and comes back is new.": so is every order that is not in the accepted list before this one
+  pub comes-back : (j : ℕ) → j < orderCount list → (InNewest (orderAt list j .number) lists → ⊥) → IsNew before list j
+
+-- ---- P5: "Last given 255; number 1 ended in step f; one new order comes. In step f+7 it is passed over; if it comes in step f+8 instead,
+-- it gets 1."
+
+pub record P5ForEveryStep (lists : List (List ℕ)) (before : Desk) (list : List ℕ) (after : Desk) : Type 0 where
+  -- the newest list before this step is that of step f+6
+  pub passed-over : EndedAgo eight eight lists 1 6 → (i : ℕ) → numberIn after i ≡ 1 → ⊥
+  -- it is that of step f+7
+  pub gets-one : EndedAgo eight eight lists 1 7 → before .last ≡ 255 → (j : ℕ) → OneNew (before .places) list j
+      → (i : ℕ) × HasSlot after (orderAt list j .number) i × (numberIn after i ≡ 1)
+
 -- ---- one step, the accepted lists before it standing the newest first
 
 pub record OneStep (lists : List (List ℕ)) (before : Desk) (list : List ℕ) (after : Desk) : Type 0 where
-  -- "The step number rises by one; 8,191 is followed by 0." (D-03)
-  pub rises : before .step + 1 < steps → after .step ≡ before .step + 1
-  pub round : before .step + 1 ≡ steps → after .step ≡ 0
-  pub below : after .step < steps
-
-  -- "A live order absent from the list has ended [..]. An order present keeps its slot and number and takes the new words."
-  -- D-06, D-08: the live orders are exactly the list's, and each has one slot
-  pub live : (order : ℕ) → Live after order ↔ Present list order
-  pub single : (order i k : ℕ) → HasSlot after order i → HasSlot after order k → i ≡ k
-  -- D-07, D-08, K-11: each has the list's type and words, a second word that is not considered held as zero
-  pub words : (j i : ℕ) → j < orderCount list → HasSlot after (orderAt list j .number) i
-      → let order = orderAt list j in
-      codedOf (placeAt (after .places) i .slot) ≡ settled (record { number = numberIn after i; kind = order .kind; first = order .first; second = order .second })
-  -- D-07: one that stays keeps slot, number and type
-  pub stays : (order i : ℕ) → HasSlot before order i → Present list order
-      → HasSlot after order i × (numberIn after i ≡ numberIn before i) × (kindOf (placeAt (after .places) i .slot) ≡ kindOf (placeAt (before .places) i .slot))
-
-  -- "New orders, in list order, take the lowest free slot and the first permitted number after the last one given." (D-08, D-09, D-10)
-  pub new : (j : ℕ) → IsNew before list j → NewOrder lists before list after j
-  pub last : LastGiven before list after (orderCount list) (after .last)
-  -- "A fresh desk gives 1 first." (D-11)
-  pub one-first : lists ≡ [] → 1 ≤ orderCount list → (i : ℕ) × HasSlot after (orderAt list 0 .number) i × (numberIn after i ≡ 1)
-
-  -- "[..] no order that had it ended in this step or in the seven accepted steps before": what the desk keeps of ended numbers says exactly
-  -- this (D-12, A-05)
+  pub counts : StepCounts before after
+  pub stay : OrdersStay before list after
+  pub arrive : OrdersArrive lists before list after
+  -- D-12, A-05: what the desk keeps of ended numbers says exactly which of them rest, however long it has run
   pub rests : (number : ℕ) → 1 ≤ number → (isResting eight (after .step) (after .ended) number ≡ true) ↔ NumberRests (list ∷ lists) number
-
-  -- "An order that ends and comes back is new.": so is every order that is not in the accepted list before this one (D-16)
-  pub comes-back : (j : ℕ) → j < orderCount list → (InNewest (orderAt list j .number) lists → ⊥) → IsNew before list j
-
-  -- P5, for every step f: "Last given 255; number 1 ended in step f; one new order comes. In step f+7 it is passed over; if it comes in
-  -- step f+8 instead, it gets 1."
-  pub passed-over : EndedAgo eight eight lists 1 6 → (i : ℕ) → numberIn after i ≡ 1 → ⊥
-  pub gets-one : EndedAgo eight eight lists 1 7 → before .last ≡ 255 → (j : ℕ) → OneNew (before .places) list j
-      → (i : ℕ) × HasSlot after (orderAt list j .number) i × (numberIn after i ≡ 1)
+  pub p5 : P5ForEveryStep lists before list after
 
 -- ---- all steps, the calls of a fresh desk standing the newest first
 
@@ -149,7 +164,6 @@ pub record TheStep : Type 0 where
   -- "An accepted list makes one step" (D-02)
   pub steps-so : OfAccept (λ desk list answer. (calls : List (List ℕ)) → desk ≡ deskAfter eight calls → answer .verdict ≡ Accepted
       → OneStep (accepted eight calls) desk list (answer .desk))
-
   -- "So eight tables in a row go without it.": where an order has slot i in step n and is absent from the list of step n + 1, the tables
   -- of steps n + 1 to n + 8 go without its number (D-13)
   pub eight-tables : (calls : List (List ℕ)) (n order i : ℕ) → n + 1 ≤ stepsMade eight calls → HasSlot (deskOf eight calls n) order i
@@ -163,7 +177,6 @@ pub record TheStep : Type 0 where
   -- "hence a permitted one always exists" (D-15); that each new order finds one is `NewOrder`
   pub one-permitted : (calls : List (List ℕ))
       → (number : ℕ) × (1 ≤ number) × (number ≤ 255) × ((i : ℕ) → numberIn (deskAfter eight calls) i ≡ number → ⊥) × (NumberRests (accepted eight calls) number → ⊥)
-
   -- "An empty list is accepted and ends everything." (D-17)
   pub empty : OfAccept (λ desk list answer. Made desk → list ≡ [] → (answer .verdict ≡ Accepted) × ((i : ℕ) → placeAt (answer .desk .places) i ≡ freePlace))
   -- "A refused list makes no step and shortens no rest." (D-18)

@@ -2,23 +2,22 @@
 -- an order has its turn can be told from the desk before the step, the list and the desk after it: they are those of the orders that stay
 -- and of the new ones before it in the list (D-08, D-09).
 use Prim.Native.Nat.{ℕ, zero, suc, _+_, _-_, _<_, _≤_}
-use mathlib.Core.Path.{_≡_, refl, sym, ap, _∙_, subst}
-use mathlib.Core.Logic.{_⊎_, inl, inr, _↔_}
+use mathlib.Core.Path.{_≡_, sym, ap, _∙_, subst}
+use mathlib.Core.Logic.{_⊎_, inl, inr}
 use mathlib.Core.Bool.{Bool, true, false}
-use mathlib.Core.List.{List, map}
+use mathlib.Core.List.{List}
 use lib.ListN.{length, set}
 use lib.Seq.{getD-set-same}
 use native.Mathlib.Nat.{add-zero}
 use native.Mathlib.Omega.{arith}
-use Rattle.kit.specs.Loops.{fold}
 use Rattle.kit.specs.Member.{member}
-use Rattle.kit.proofs.Cases.{on, clash, given}
+use Rattle.kit.proofs.Cases.{on, given}
 use Rattle.kit.proofs.Loops.{fold-none, fold-more}
 use Rattle.condition.specs.Slots.{slots}
 use Rattle.order_list.specs.Lists.{stands, orderAt, orderCount}
-use Rattle.places.specs.Places.{freePlace, placeAt, placeOf, lowestFree, isLive}
+use Rattle.places.specs.Places.{freePlace, placeAt, lowestFree, isLive}
 use Rattle.places.specs.declared.Place.{Place}
-use Rattle.places.proofs.Live.{live-there, live-when, free-there}
+use Rattle.places.proofs.Live.{free-there}
 use Rattle.orders.proofs.Lists.{Fair}
 use Rattle.numbers.specs.Numbers.{nextNumber}
 use Rattle.numbers.proofs.Search.{FirstPermitted, search-found, number-range}

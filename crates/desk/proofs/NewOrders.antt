@@ -1,6 +1,6 @@
 -- The new orders of a step, told from the desk before it, the list and the desk after it: which slots are taken when an order has its
 -- turn, which slot and number it is given, and which number is then the last one given (D-08, D-09).
-use Prim.Native.Nat.{ℕ, zero, suc, _+_, _<_, _≤_}
+use Prim.Native.Nat.{ℕ, _+_, _<_, _≤_}
 use mathlib.Core.Path.{_≡_, refl, sym, ap, _∙_, subst}
 use mathlib.Core.Logic.{_⊎_, inl, inr, _↔_}
 use mathlib.Core.Bool.{Bool, true, false}

@@ -9,7 +9,7 @@ use lib.Dec.{eqb}
 use lib.ListN.{length, set}
 use lib.Seq.{getD-set-same, getD-set-other}
 use native.Mathlib.Omega.{arith}
-use borrow.Author.Tests.{eqb-true, eqb-false, lt-ltb}
+use borrow.Author.Tests.{eqb-true, eqb-false}
 use Rattle.kit.specs.Loops.{fold}
 use Rattle.kit.proofs.Cases.{on, clash, given}
 use Rattle.kit.proofs.Loops.{fold-none, fold-more}
@@ -76,7 +76,6 @@ module _ (resting : ℕ → Bool) (list : List ℕ) (start : Seats) (j : ℕ) (o
     where
       placeAtOrder : List Place → ℕ → ℕ
       placeAtOrder places i = placeAt places i .order
-
 
   -- and so nothing changes after it
   since : (m : ℕ) → j < m → m ≤ orderCount list → fold turn start m ≡ done

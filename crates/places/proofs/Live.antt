@@ -43,17 +43,14 @@ module _ (places : List Place) where
 
   -- order 0 stands for none, so the search of its place is this one
   pub lowest-free : placeOf places 0 ≡ lowestFree places
-  unfolding placeOf lowestFree
+  unfolding placeOf
   lowest-free = refl
 
   pub free-there : lowestFree places < slots → placeAt places (lowestFree places) .order ≡ 0
-  unfolding lowestFree
   free-there p = eqb-true _ 0 (found-there free slots (lt-ltb (lowestFree places) slots p) .1)
 
   pub free-before : (i : ℕ) → i < lowestFree places → 1 ≤ placeAt places i .order
-  unfolding lowestFree
   free-before i p = omega (arith, eqb-false (placeAt places i .order) 0 (find-before free slots i p))
 
   pub free-none : slots ≤ lowestFree places → (i : ℕ) → i < slots → 1 ≤ placeAt places i .order
-  unfolding lowestFree
   free-none full i p = omega (arith, eqb-false (placeAt places i .order) 0 (found-none free slots i (le-ltb (lowestFree places) slots full) p))

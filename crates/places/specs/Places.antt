@@ -29,7 +29,7 @@ abbrev pub isFree : Place → Bool
 isFree place = eqb (place .order) 0
 
 -- D-08: the lowest free slot, or 20 where none is free
-unfoldable pub lowestFree : List Place → ℕ
+abbrev pub lowestFree : List Place → ℕ
 lowestFree places = find (λ i. isFree (placeAt places i)) slots
 
 -- A-01: an order is live: it has a place

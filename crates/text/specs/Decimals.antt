@@ -1,9 +1,11 @@
 -- Numbers in decimal.
-use Prim.Native.Nat.{ℕ, zero, suc, _+_, _/_, _%_}
+use Prim.Native.Nat.{ℕ, zero, suc, _+_, _-_, _*_, _/_, _%_, _<_, _≤_}
 use Prim.Native.Char.{code}
+use mathlib.Core.Path.{_≡_}
 use mathlib.Core.Bool.{cond}
 use mathlib.Core.List.{List, [], _∷_, _++_}
 use lib.Dec.{ltb}
+use lib.ListN.{length, getD}
 
 -- A-35: the last digit, in ASCII
 abbrev pub digit : ℕ → List ℕ
@@ -18,3 +20,17 @@ digits (suc most) n = cond (ltb n 10) (digit n) (digits most (n / 10) ++ digit n
 -- A-35: a number in decimal without leading zeros
 unfoldable pub decimal : ℕ → List ℕ
 decimal n = digits n n
+
+-- ---- what that means, without the formula; proofs/ReadBack.antt proves it of `decimal`
+
+-- A-35: the number that digits say, read from the left, after those that said `so-far`
+abbrev pub valueFrom : ℕ → List ℕ → ℕ
+valueFrom so-far [] = so-far
+valueFrom so-far (byte ∷ more) = valueFrom (so-far * 10 + (byte - 48)) more
+
+-- A-35: a text is a number in decimal: digits in ASCII that say the number, and the first is a zero only where it is the only one
+pub record IsDecimal (number : ℕ) (text : List ℕ) : Type 0 where
+  pub some : 1 ≤ length text
+  pub ascii : (i : ℕ) → i < length text → (48 ≤ getD text i 0) × (getD text i 0 ≤ 57)
+  pub value : valueFrom 0 text ≡ number
+  pub leading : 2 ≤ length text → 49 ≤ getD text 0 0
