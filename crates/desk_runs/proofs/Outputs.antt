@@ -3,13 +3,13 @@ use Prim.Native.Nat.{ℕ, _+_, _-_, _≤_}
 use mathlib.Core.Path.{_≡_, refl}
 use mathlib.Core.List.{List, [], _++_, append-assoc}
 use lib.ListN.{length, take, drop}
-use Rattle.frames.specs.Frames.{wholeSize, shortTail}
+use Rattle.frames.specs.Frames.{noBare, wholeSize, shortTail}
 use Rattle.frames.proofs.Splitting.{calls-more, tail-more, calls-none, tail-short, calls-end, tail-end}
 use Rattle.desk.specs.Desks.{rest, acceptOf}
 use Rattle.desk.specs.declared.Answer.{Answer}
 use Rattle.desk.specs.declared.Desk.{Desk}
 use Rattle.desk_output.specs.Outputs.{shortLine}
-use Rattle.desk_runs.specs.Runs.{noBare, listsOf, tableFor, lineFor, tablesFrom, linesFrom, tablesWith, linesWith}
+use Rattle.desk_runs.specs.Runs.{listsOf, tableFor, lineFor, tablesFrom, linesFrom, tablesWith, linesWith}
 
 module _ (desk : Desk) (before : ℕ) (input : List ℕ) where
   module _ (size : ℕ) (sized : size ≡ wholeSize noBare input) where

@@ -1,18 +1,14 @@
--- What comes of a whole input of lists: everything that the program run_desk writes.
+-- What comes of a whole input of lists: everything that the program run_desk writes, and the desk at the input's end.
 use Prim.Native.Nat.{ℕ, _+_}
 use mathlib.Core.List.{List, [], _∷_, _++_, map}
 use Rattle.wire.specs.declared.verdicts.Verdict.{Verdict}
 use Rattle.wire.specs.declared.verdicts.Verdict.the-variants.{Accepted, Refused}
-use Rattle.frames.specs.Frames.{Call, callsOf, shortTail}
+use Rattle.frames.specs.Frames.{Call, noBare, callsOf, shortTail}
 use Rattle.desk.specs.Desks.{rest, freshDesk, acceptOf}
 use Rattle.desk.specs.declared.Desk.{Desk}
 use Rattle.desk_output.specs.Outputs.{tableBytes, refusedLine, shortLine}
 
--- every length has its bytes: two bytes do not say this one
-abbrev pub noBare : ℕ
-noBare = 0x10000
-
--- the lists that the input has whole
+-- the lists that the input has whole; every length has its bytes
 unfoldable pub listsOf : List ℕ → List (List ℕ)
 listsOf input = map (λ (call : Call). call .1) (callsOf noBare input)
 
@@ -43,6 +39,11 @@ linesFrom desk before (list ∷ later) =
     let answer = acceptOf rest desk list in
     lineFor (answer .verdict) (before + 1) ++ linesFrom (answer .desk) (before + 1) later
 
+-- D-02, D-18: the desk that they leave; a refused one leaves it as it was
+unfoldable pub deskFrom : Desk → List (List ℕ) → Desk
+deskFrom desk [] = desk
+deskFrom desk (list ∷ later) = deskFrom (acceptOf rest desk list .desk) later
+
 -- ---- a whole input
 
 -- the tables, and the lines with the one for an input that ends inside a list
@@ -58,3 +59,7 @@ tablesOf input = tablesWith freshDesk input
 
 unfoldable pub linesOf : List ℕ → List ℕ
 linesOf input = linesWith freshDesk 0 input
+
+-- D-04: from a fresh desk, the one after all lists that the input has whole
+unfoldable pub deskAtEnd : List ℕ → Desk
+deskAtEnd input = deskFrom freshDesk (listsOf input)

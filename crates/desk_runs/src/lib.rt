@@ -1,5 +1,5 @@
 // What the program run_desk writes, computed in memory: lists in a slice, each after its length in two bytes, to tables and lines in two
-// lent buffers.
+// lent buffers; and the desk that the lists leave.
 use desk::Desk;
 use wire::Verdict;
 ghost use Prim.Native.Nat.{_≤_};
@@ -7,10 +7,7 @@ ghost use mathlib.Core.Path.{_≡_};
 ghost use lib.ListN.{length};
 ghost use Rattle.kit.specs.Put.{Poured};
 ghost use Rattle.desk.specs.Desks.{rest, acceptOf, Made};
-ghost use Rattle.desk_runs.specs.Runs.{tableFor, lineFor, tablesOf, linesOf};
-
-// More than the two bytes of a length can say: every length has its bytes.
-const NO_BARE: u32 = 0x10000;
+ghost use Rattle.desk_runs.specs.Runs.{tableFor, lineFor, tablesOf, linesOf, deskAtEnd};
 
 // How many bytes were put into each of the two buffers.
 pub struct Ran {
@@ -72,7 +69,7 @@ pub fn run(input: &[u8], tables: &mut [u8], lines: &mut [u8]) -> Ran
     let mut lists: u64 = 0;
     let mut rest = input;
     while 0 < rest.len() {
-        let size = frames::call_size(rest, NO_BARE);
+        let size = frames::call_size(rest, frames::NO_BARE);
         if size == 0 {
             let past = desk_output::put_short(lines, ran.lines);
             return Ran {
@@ -87,4 +84,22 @@ pub fn run(input: &[u8], tables: &mut [u8], lines: &mut [u8]) -> Ran
         rest = &rest[size..];
     }
     ran
+}
+
+// The desk that all lists leave, from a fresh one on. A refused list leaves it as it was, and so does an input's tail that is no whole list.
+pub fn desk_after(input: &[u8]) -> Desk
+    ensures { λ r. ⌜ r ≡ deskAtEnd (now (input .entry)) ⌝ }
+{
+    let mut desk = Desk::fresh();
+    let mut rest = input;
+    while 0 < rest.len() {
+        let size = frames::call_size(rest, frames::NO_BARE);
+        if size == 0 {
+            return desk;
+        }
+        let answer = desk.accept(&rest[frames::LENGTH..size]);
+        desk = answer.desk;
+        rest = &rest[size..];
+    }
+    desk
 }

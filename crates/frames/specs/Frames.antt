@@ -1,5 +1,4 @@
 -- Calls one after another, each a length in two bytes, high first, and so many bytes. One length may be bare: nothing follows it.
--- Where no length is to be bare, `bare` is a number that two bytes do not have.
 use Prim.Native.Nat.{ℕ, zero, suc, _+_}
 use mathlib.Core.Bool.{Bool, cond}
 use mathlib.Core.List.{List, [], _∷_, _++_}
@@ -10,6 +9,10 @@ use Rattle.kit.specs.Bytes.{wordAt, wordBytes}
 -- a call: its length as it stands there, and its bytes
 abbrev pub Call : Type 0
 Call = ℕ × List ℕ
+
+-- no length is bare, and each has its bytes: two bytes do not say this one
+abbrev pub noBare : ℕ
+noBare = 0x10000
 
 -- how many bytes follow a length
 unfoldable pub follows : ℕ → ℕ → ℕ

@@ -5,6 +5,9 @@ ghost use Rattle.frames.specs.Frames.{follows, wholeSize};
 // How many bytes a length takes.
 pub const LENGTH: usize = 2;
 
+// Where no length is to be bare: more than two bytes can say.
+pub const NO_BARE: u32 = 0x10000;
+
 // How many bytes follow a length.
 fn follows(word: u16, bare: u32) -> u16
     ensures { λ r. ⌜ r ≡ follows bare word ⌝ }

@@ -5,7 +5,8 @@ use mathlib.Core.Bool.{Bool, cond}
 use mathlib.Core.List.{List, [], _∷_, _++_}
 use Rattle.condition.specs.Slots.{isOccupied, kindOf, codedOf}
 use Rattle.condition.specs.declared.slots.Slot.{Slot}
-use Rattle.listing_words.specs.Words.{blank, lineFeed, numberThen, distanceWord, markWord}
+use Rattle.text.specs.Words.{blank}
+use Rattle.listing_words.specs.Words.{lineFeed, numberThen, distanceWord, markWord}
 use Rattle.listing_seconds.specs.Seconds.{secondWord}
 
 -- G-04: slot, number, type

@@ -2,8 +2,8 @@
 use Prim.Native.Nat.{ℕ}
 use mathlib.Core.List.{List, _++_}
 use Rattle.kit.specs.Text.{ascii}
-use Rattle.text.specs.Words.{refusedWord}
-use Rattle.listing_words.specs.Words.{blank, lineFeed, numberThen}
+use Rattle.text.specs.Words.{blank, refusedWord}
+use Rattle.listing_words.specs.Words.{lineFeed, numberThen}
 
 -- G-02: the first line, `conditions 1`
 unfoldable pub headerLine : List ℕ

@@ -8,12 +8,12 @@ use lib.ListN.{length, length-append}
 use native.Mathlib.Omega.{arith}
 use borrow.Author.Tests.{leb-true}
 use Rattle.kit.proofs.Cases.{on, and-both}
-use Rattle.text.specs.Words.{refusedWord}
+use Rattle.text.specs.Words.{blank, refusedWord}
 use Rattle.condition.specs.Slots.{isOccupied, coding, kindOf, codedOf, HeldBody, Held}
 use Rattle.condition.specs.declared.slots.Body.{Body}
 use Rattle.condition.specs.declared.slots.Body.the-variants.{Empty, Area, Traction, Current}
 use Rattle.condition.specs.declared.slots.Slot.{Slot}
-use Rattle.listing_words.specs.Words.{blank, lineFeed, numberThen, distanceWord, markWord}
+use Rattle.listing_words.specs.Words.{lineFeed, numberThen, distanceWord, markWord}
 use Rattle.listing_seconds.specs.Seconds.{secondWord}
 use Rattle.listing_room.proofs.Words.{number-short, distance-short, second-short, mark-short}
 use Rattle.listing_lines.specs.Lines.{headerLine, tableWord, tableLine, refusedLine, endWord, endLine}

@@ -11,7 +11,8 @@ use Rattle.wire.specs.Distances.{noValue, distanceOf}
 use Rattle.condition.specs.Slots.{codedOf}
 use Rattle.condition.specs.declared.slots.Slot.{Slot}
 use Rattle.condition.specs.declared.slots.Coded.{Coded}
-use Rattle.listing_words.specs.Words.{blank, minus, numberThen, distanceWord}
+use Rattle.text.specs.Words.{blank}
+use Rattle.listing_words.specs.Words.{minus, numberThen, distanceWord}
 use Rattle.listing_seconds.specs.Seconds.{stroke, systemWord, limitWord}
 use Rattle.listing_entries.specs.Entries.{entryNumbers}
 

@@ -9,9 +9,6 @@ use Rattle.wire.specs.Distances.{distanceOf}
 use Rattle.wire.specs.declared.distances.Distance.{Distance}
 use Rattle.wire.specs.declared.distances.Distance.the-variants.{Missing, Metres, Below}
 
-abbrev pub blank : ℕ
-blank = code " "
-
 abbrev pub lineFeed : ℕ
 lineFeed = code "\n"
 

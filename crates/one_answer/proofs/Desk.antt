@@ -108,3 +108,6 @@ desk-runs-run κs handed answer other lasts others p q =
     let tables = agree-poured (p .0) (q .0) in
     let lines = agree-poured (p .1) (q .1) in
     ((λ i. record { tables = tables .0 i; lines = lines .0 i }), (λ i. (tt, (tables .1 i, (lines .1 i, tt)))))
+
+pub desk-runs-desk-after : OneAnswer desk-runs.desk_after.ended desk-runs.desk_after.Reads.Learnt
+desk-runs-desk-after κs handed answer other lasts others p q = (agree p q, refl)

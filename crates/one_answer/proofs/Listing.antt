@@ -8,6 +8,7 @@ use Rattle.listing_lines.proofs as listing-lines
 use Rattle.listing_reader.proofs as listing-reader
 use Rattle.listing_tables.proofs as listing-tables
 use Rattle.lister.proofs as lister
+use Rattle.hearing_runs.proofs as hearing-runs
 use Rattle.listing.proofs as listing
 use Rattle.exports.proofs as exports
 
@@ -54,6 +55,11 @@ lister-take κs handed answer other lasts others p q =
     let next = agree (p .0) (q .0) in
     ((λ i. record { lister = next i; at = put .0 i }), ap (λ bytes. (tt, (tt, (bytes, (tt, tt))))) (put .1))
 
+-- ---- hearing_runs
+
+pub hearing-runs-hear : OneAnswer hearing-runs.hear.ended hearing-runs.hear.Reads.Learnt
+hearing-runs-hear κs handed answer other lasts others p q = given (agree-poured p q) (λ (place, bytes). (place, ap (λ b. (tt, (b, tt))) bytes))
+
 -- ---- listing
 
 pub listing-finish : OneAnswer listing.finish.ended listing.finish.Reads.Learnt
@@ -67,11 +73,17 @@ listing-list κs handed answer other lasts others p q = given (agree-poured p q)
 pub exports-bravolith-list : OneAnswer exports.bravolith_list.ended exports.bravolith_list.Reads.Learnt
 exports-bravolith-list κs handed answer other lasts others p q = given (agree-poured p q) (λ (place, bytes). (place, ap (λ b. (tt, (b, tt))) bytes))
 
+pub exports-bravolith-hear : OneAnswer exports.bravolith_hear.ended exports.bravolith_hear.Reads.Learnt
+exports-bravolith-hear κs handed answer other lasts others p q = given (agree-poured p q) (λ (place, bytes). (place, ap (λ b. (tt, (b, tt))) bytes))
+
 pub exports-bravolith-run : OneAnswer exports.bravolith_run.ended exports.bravolith_run.Reads.Learnt
 exports-bravolith-run κs handed answer other lasts others p q = given (agree-poured p q) (λ (place, bytes). (place, ap (λ b. (tt, (b, tt))) bytes))
 
 pub exports-bravolith-run-lines : OneAnswer exports.bravolith_run_lines.ended exports.bravolith_run_lines.Reads.Learnt
 exports-bravolith-run-lines κs handed answer other lasts others p q = given (agree-poured p q) (λ (place, bytes). (place, ap (λ b. (tt, (b, tt))) bytes))
+
+pub exports-bravolith-write : OneAnswer exports.bravolith_write.ended exports.bravolith_write.Reads.Learnt
+exports-bravolith-write κs handed answer other lasts others p q = (agree (p .0) (q .0), ap (λ b. (tt, (tt, (b, tt)))) (agree (p .1) (q .1)))
 
 pub exports-bravolith-signals : OneAnswer exports.bravolith_signals.ended exports.bravolith_signals.Reads.Learnt
 exports-bravolith-signals κs handed answer other lasts others p q = given (agree-poured p q) (λ (place, bytes). (place, ap (λ b. (tt, (b, tt))) bytes))

@@ -5,8 +5,8 @@ use lib.ListN.{getD}
 use Rattle.kit.specs.Each.{each}
 use Rattle.kit.specs.Text.{ascii}
 use Rattle.text.specs.Decimals.{decimal}
-use Rattle.text.specs.Words.{refusedWord}
-use Rattle.state_words.specs.Words.{blank, cabWord, brakeWord, isolationWord, tractionWord}
+use Rattle.text.specs.Words.{blank, refusedWord}
+use Rattle.state_words.specs.Words.{cabWord, brakeWord, isolationWord, tractionWord}
 use Rattle.train_telegram.specs.States.{systemWith}
 use Rattle.train_codes.specs.declared.Isolation.the-variants as Isolation′
 use Rattle.train_telegram.specs.declared.states.National.{National}

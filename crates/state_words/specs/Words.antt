@@ -3,6 +3,7 @@ use Prim.Native.Nat.{ℕ}
 use Prim.Native.Char.{code}
 use mathlib.Core.List.{List, _∷_}
 use Rattle.kit.specs.Text.{ascii}
+use Rattle.text.specs.Words.{blank}
 use Rattle.text.specs.Hexadecimals.{hexadecimal}
 use Rattle.train_codes.specs.declared.Brake.{Brake}
 use Rattle.train_codes.specs.declared.Brake.the-variants as Brake′
@@ -12,9 +13,6 @@ use Rattle.train_codes.specs.declared.Isolation.{Isolation}
 use Rattle.train_codes.specs.declared.Isolation.the-variants as Isolation′
 use Rattle.train_codes.specs.declared.Traction.{Traction}
 use Rattle.train_codes.specs.declared.Traction.the-variants as Traction′
-
-abbrev pub blank : ℕ
-blank = code " "
 
 -- S-16
 abbrev pub silent : List ℕ

@@ -208,7 +208,7 @@ fn until_the_search_arrives(random: &mut Random, refusals: bool) -> Vec<u8> {
     author.input
 }
 
-fn refused_between(random: &mut Random) -> Vec<u8> {
+pub fn refused_between(random: &mut Random) -> Vec<u8> {
     let mut author = Author::new(random);
     let mut faults = [1, 2, 3, 4, 5, 6, 7, 8];
     for _ in 0..4 {
@@ -374,7 +374,7 @@ fn lengths(random: &mut Random) -> Vec<u8> {
     author.input
 }
 
-fn ends_inside(random: &mut Random) -> Vec<u8> {
+pub fn ends_inside(random: &mut Random) -> Vec<u8> {
     let mut author = Author::new(random);
     for _ in 0..author.random.between(1, 8) {
         author.end(2);

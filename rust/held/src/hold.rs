@@ -22,6 +22,13 @@ pub const LIST: Function = Function {
     text: true,
 };
 
+pub const HEAR: Function = Function {
+    name: "bravolith_hear",
+    proved: proved::hear,
+    plain: plain::hearing::hear,
+    text: true,
+};
+
 pub const RUN: Function = Function {
     name: "bravolith_run",
     proved: proved::run,

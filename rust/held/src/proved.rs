@@ -1,8 +1,9 @@
 //! The functions of the proved library, and a safe wrapper for each.
 //!
-//! Each but the last takes an input and a lent buffer. The buffer gets the first bytes of
-//! the text and keeps its bytes past them. The answer is how many bytes were
-//! put: the length of the whole text or of the buffer, whichever is less.
+//! Each but `write` and `word` takes an input and a lent buffer. The buffer gets
+//! the first bytes of the text and keeps its bytes past them. The answer is how
+//! many bytes were put: the length of the whole text or of the buffer, whichever
+//! is less.
 
 extern "C" {
     fn bravolith_list(
@@ -11,6 +12,12 @@ extern "C" {
         listing: *mut u8,
         listing_len: usize,
     ) -> usize;
+    fn bravolith_hear(
+        telegrams: *const u8,
+        telegrams_len: usize,
+        lines: *mut u8,
+        lines_len: usize,
+    ) -> usize;
     fn bravolith_run(lists: *const u8, lists_len: usize, run: *mut u8, run_len: usize) -> usize;
     fn bravolith_run_lines(
         lists: *const u8,
@@ -18,6 +25,13 @@ extern "C" {
         lines: *mut u8,
         lines_len: usize,
     ) -> usize;
+    fn bravolith_write(
+        lists: *const u8,
+        lists_len: usize,
+        packet: u8,
+        out: *mut u8,
+        out_len: usize,
+    ) -> u8;
     fn bravolith_signals(
         calls: *const u8,
         calls_len: usize,
@@ -41,6 +55,19 @@ pub fn list(recording: &[u8], listing: &mut [u8]) -> usize {
     }
 }
 
+/// Telegrams of any length, heard one after another, become a listing's lines.
+pub fn hear(telegrams: &[u8], lines: &mut [u8]) -> usize {
+    // SAFETY: as for `list`.
+    unsafe {
+        bravolith_hear(
+            telegrams.as_ptr(),
+            telegrams.len(),
+            lines.as_mut_ptr(),
+            lines.len(),
+        )
+    }
+}
+
 /// Lists put to one fresh desk become its tables as telegrams.
 pub fn run(lists: &[u8], run: &mut [u8]) -> usize {
     // SAFETY: as for `list`.
@@ -51,6 +78,22 @@ pub fn run(lists: &[u8], run: &mut [u8]) -> usize {
 pub fn run_lines(lists: &[u8], lines: &mut [u8]) -> usize {
     // SAFETY: as for `list`.
     unsafe { bravolith_run_lines(lists.as_ptr(), lists.len(), lines.as_mut_ptr(), lines.len()) }
+}
+
+/// Lists put to one fresh desk, which then writes one packet of its table into
+/// a buffer of any length. The answer is the number of the refusal, 0 where the
+/// packet is written.
+pub fn write(lists: &[u8], packet: u8, out: &mut [u8]) -> u8 {
+    // SAFETY: as for `list`.
+    unsafe {
+        bravolith_write(
+            lists.as_ptr(),
+            lists.len(),
+            packet,
+            out.as_mut_ptr(),
+            out.len(),
+        )
+    }
 }
 
 /// Train calls become a line each.

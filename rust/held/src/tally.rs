@@ -1,5 +1,7 @@
 //! Counts what the compared cases have shown, from the outputs themselves.
 
+use crate::heard::Heard;
+use crate::writing::Writes;
 use plain::run::TABLE_BYTES;
 use plain::telegram::TELEGRAM_BYTES;
 
@@ -9,11 +11,13 @@ pub struct Tally {
     pub accepted_lists: u64,
     pub refused_lists: [u64; 18],
     pub short_lists: u64,
+    pub writes: Writes,
     pub telegrams: u64,
     pub tables: u64,
     pub refused_telegrams: [u64; 18],
     pub new: u64,
     pub carried: u64,
+    pub heard: Heard,
     pub calls: u64,
     pub accepted_calls: u64,
     pub missed_calls: u64,
@@ -22,7 +26,7 @@ pub struct Tally {
 }
 
 /// The number in a line `refused N` or `refused N ...`.
-fn refusal(line: &[u8]) -> Option<usize> {
+pub fn refusal(line: &[u8]) -> Option<usize> {
     let digits = line.strip_prefix(b"refused ")?;
     let mut number = 0;
     for digit in digits.iter().take_while(|digit| digit.is_ascii_digit()) {
@@ -31,7 +35,7 @@ fn refusal(line: &[u8]) -> Option<usize> {
     Some(number)
 }
 
-fn lines(text: &[u8]) -> impl Iterator<Item = &[u8]> {
+pub fn lines(text: &[u8]) -> impl Iterator<Item = &[u8]> {
     text.split_inclusive(|&byte| byte == b'\n')
 }
 
@@ -85,8 +89,7 @@ impl Tally {
         }
     }
 
-    /// What should have occurred and did not, in words. Refusal 9 is missing
-    /// here, because no program asks for a packet that is not 3 to 7.
+    /// What should have occurred and did not, in words.
     pub fn missing(&self) -> Vec<String> {
         let mut missing = Vec::new();
         let mut want = |count: u64, what: String| {
@@ -118,6 +121,8 @@ impl Tally {
         want(self.accepted_calls, "an accepted call".into());
         want(self.missed_calls, "a missed call".into());
         want(self.short_calls, "an input that ends inside a call".into());
+        self.writes.missing(&mut want);
+        self.heard.missing(&mut want);
         missing
     }
 
@@ -144,11 +149,12 @@ impl Tally {
             by_number(&self.refused_calls),
             self.short_calls
         );
-        println!("refusal 9 cannot occur here: every packet asked for is 3 to 7");
+        self.writes.print();
+        self.heard.print();
     }
 }
 
-fn by_number(counts: &[u64; 18]) -> String {
+pub fn by_number(counts: &[u64; 18]) -> String {
     let counted = counts.iter().enumerate().filter(|(_, &count)| count > 0);
     let words: Vec<String> = counted
         .map(|(number, count)| format!("refused {number}: {count}"))

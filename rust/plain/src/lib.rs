@@ -13,6 +13,7 @@ pub mod blocks;
 pub mod calls;
 pub mod condition;
 pub mod desk;
+pub mod hearing;
 pub mod listener;
 pub mod listing;
 pub mod order;

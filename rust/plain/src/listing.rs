@@ -43,14 +43,14 @@ pub fn list(recording: &[u8], listing: &mut Vec<u8>) {
     page.put_to(listing);
 }
 
-fn list_refusal(refusal: Refusal, page: &mut Page, listing: &mut Vec<u8>) {
+pub fn list_refusal(refusal: Refusal, page: &mut Page, listing: &mut Vec<u8>) {
     page.word(&REFUSED);
     page.tiny(refusal.number());
     page.end_line();
     page.put_to(listing);
 }
 
-fn list_table(picture: &Picture, page: &mut Page, listing: &mut Vec<u8>) {
+pub fn list_table(picture: &Picture, page: &mut Page, listing: &mut Vec<u8>) {
     let occupied = |slot: &&Slot| slot.number != 0;
     let conditions = picture.table.iter().filter(occupied).count();
     page.word(&TABLE);

@@ -116,6 +116,21 @@ pub fn run_lines(lists: &[u8], lines: &mut Vec<u8>) {
     }
 }
 
+/// Writes one packet of the table of the desk after these lists. The answer is
+/// the number of the refusal, 0 where the packet is written.
+pub fn write(lists: &[u8], packet: u8, buffer: &mut [u8]) -> u8 {
+    let mut desk = Desk::new();
+    for piece in Pieces::new(lists, None) {
+        let Piece::Whole(list) = piece else { break };
+        // A refused list leaves the desk as it was.
+        let _ = desk.put(list);
+    }
+    match desk.write(packet, buffer) {
+        Ok(()) => 0,
+        Err(refusal) => refusal.number(),
+    }
+}
+
 #[cfg(test)]
 mod tests {
     use super::*;
@@ -173,6 +188,32 @@ mod tests {
             assert_eq!(file.len(), lists * TABLE_BYTES);
             let short = if length == 12 { "" } else { "short list\n" };
             assert_eq!(lines, short, "{length}");
+        }
+    }
+
+    #[test]
+    fn a_packet_is_written_or_no_byte_changes() {
+        // A refused list and a short one make no step.
+        let mut lists = input(&[&ORDER, &[1]]);
+        lists.extend([0, 10, 0]);
+        let (file, _) = outputs(&lists);
+        for packet in 0..=255 {
+            for length in 0..=64 {
+                let mut buffer = vec![0xA5; length];
+                let number = write(&lists, packet, &mut buffer);
+                let good = (3..=7).contains(&packet);
+                match (good, length) {
+                    (true, 26) => {
+                        assert_eq!(number, 0);
+                        let at = usize::from(packet - 3) * 26;
+                        assert_eq!(buffer, file[at..at + 26]);
+                        continue;
+                    }
+                    (true, _) => assert_eq!(number, 10),
+                    (false, _) => assert_eq!(number, 9),
+                }
+                assert_eq!(buffer, vec![0xA5; length]);
+            }
         }
     }
 

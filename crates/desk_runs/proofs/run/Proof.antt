@@ -8,10 +8,11 @@ use native.Mathlib.Omega.{arith}
 use borrow.Author.Needs.{needs}
 use borrow.Rule.Slice.PartAt.{part-to-end}
 use Rattle.kit.proofs.Put.{poured-length}
+use Rattle.frames.specs.Frames.{noBare}
 use Rattle.frames.proofs.Splitting.{size-bounds}
 use Rattle.frames.proofs.Pouring.{Pouring, pouring-start, pouring-more, pouring-end, pouring-last, pouring-as, pouring-length, pouring-room}
 use Rattle.desk.specs.Desks.{Made, made, called}
-use Rattle.desk_runs.specs.Runs.{noBare, tablesWith, linesWith, tablesOf, linesOf}
+use Rattle.desk_runs.specs.Runs.{tablesWith, linesWith, tablesOf, linesOf}
 use Rattle.desk_runs.proofs.Outputs.{tables-more, lines-more, tables-none, lines-short, tables-end, lines-end}
 use Rattle.desk_runs.proofs.run.Statement.{statement}
 use Rattle.desk_runs.proofs.run.Tie as tie

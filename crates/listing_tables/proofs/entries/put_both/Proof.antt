@@ -1,7 +1,8 @@
 -- `put_both`: two words, each with its blank.
 use mathlib.Core.Path.{sym}
 use mathlib.Core.List.{[], _∷_, _++_, append-assoc}
-use Rattle.listing_words.specs.Words.{blank, distanceWord}
+use Rattle.text.specs.Words.{blank}
+use Rattle.listing_words.specs.Words.{distanceWord}
 use Rattle.listing_seconds.specs.Seconds.{secondWord}
 use Rattle.page.proofs.Pages.{paged-as, paged-then}
 use borrow.Author.Needs.{needs}

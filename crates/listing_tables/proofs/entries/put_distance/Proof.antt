@@ -1,7 +1,8 @@
 -- `put_distance`: nothing but a sign, or a sign where there is one and then the metres.
 use mathlib.Core.Path.{ap, sym}
 use native.Mathlib.Omega.{arith}
-use Rattle.listing_words.specs.Words.{blank, numberThen}
+use Rattle.text.specs.Words.{blank}
+use Rattle.listing_words.specs.Words.{numberThen}
 use Rattle.page.proofs.Pages.{paged-as, paged-then, paged-most}
 use Rattle.listing_tables.proofs.Words.{distance-none, distance-signed}
 use borrow.Author.Needs.{needs}

@@ -4,7 +4,8 @@ use mathlib.Core.List.{[], _∷_, _++_}
 use native.Mathlib.Omega.{arith}
 use borrow.Author.Tests.{not-true, not-false}
 use Rattle.condition.specs.declared.slots.Coded.{Coded}
-use Rattle.listing_words.specs.Words.{blank, distanceWord}
+use Rattle.text.specs.Words.{blank}
+use Rattle.listing_words.specs.Words.{distanceWord}
 use Rattle.listing_seconds.specs.Seconds.{secondWord}
 use Rattle.listing_entries.specs.Entries.{entryWords}
 use Rattle.listing_entries.proofs.Entries.{entry-empty, entry-occupied}

@@ -2,7 +2,7 @@
 use mathlib.Core.Path.{ap}
 use mathlib.Core.List.{[], _∷_, _++_}
 use native.Mathlib.Omega.{arith}
-use Rattle.listing_words.specs.Words.{blank}
+use Rattle.text.specs.Words.{blank}
 use Rattle.listing_seconds.specs.Seconds.{secondWord}
 use Rattle.page.proofs.Pages.{paged-as, paged-most}
 use borrow.Author.Needs.{needs}
