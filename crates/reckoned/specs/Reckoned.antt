@@ -160,10 +160,10 @@ pub data Row : Type 0 where
 
 -- what the definitions give is what the paper says
 abbrev pub Holds : Row → Type 0
-Holds (numbers-are defined written) = defined ≡ written
-Holds (readings-are defined written) = defined ≡ written
-Holds (slots-are defined written) = defined ≡ written
-Holds (signals-are defined written) = defined ≡ written
+Holds (numbers-are defined stated) = defined ≡ stated
+Holds (readings-are defined stated) = defined ≡ stated
+Holds (slots-are defined stated) = defined ≡ stated
+Holds (signals-are defined stated) = defined ≡ stated
 
 -- C-10: every row of a table holds
 abbrev pub AllHold : List Row → Type 0
