@@ -1,13 +1,28 @@
 /*
  * A host in C. It hands a list with one order to a fresh desk, takes the table's five telegrams for a recording, and prints the
- * recording's listing: document 01's example.
+ * recording's listing: document 01's example. Then it asks for single packets, and hears telegrams of any length.
  */
 #include <stdio.h>
+#include <string.h>
 
 #include "bravolith.h"
 
 /* Each list stands after its length in two bytes: one order, number 1, type 3, from 1,200 m to 1,500 m. */
 static const uint8_t lists[] = {0, 10, 0, 0, 0, 1, 3, 0, 0x04, 0xB0, 0x05, 0xDC};
+
+/* A telegram that is too short, and the example's five, each after its length. */
+static size_t frame(const uint8_t *tables, uint8_t *telegrams)
+{
+    size_t at = 0;
+    for (int packet = -1; packet < 5; packet++) {
+        size_t length = packet < 0 ? 25 : 26;
+        telegrams[at++] = 0;
+        telegrams[at++] = (uint8_t)length;
+        memcpy(telegrams + at, tables + 26 * (packet < 0 ? 0 : packet), length);
+        at += length;
+    }
+    return at;
+}
 
 int main(void)
 {
@@ -18,5 +33,18 @@ int main(void)
     if (put != 130 || said != 0)
         return 1; /* the list was refused */
     said = bravolith_list(tables, put, listing, sizeof listing);
+    if (fwrite(listing, 1, said, stdout) != said)
+        return 1;
+
+    uint8_t packet[26];
+    for (unsigned asked = 2; asked <= 3; asked++)
+        for (size_t length = 25; length <= 26; length++)
+            printf("packet %u into %u bytes: %u\n", asked, (unsigned)length,
+                   bravolith_write(lists, sizeof lists, (uint8_t)asked, packet, length));
+    if (memcmp(packet, tables, sizeof packet) != 0)
+        return 1; /* the last of them was written: the same bytes as in the whole table */
+
+    uint8_t telegrams[6 * 28];
+    said = bravolith_hear(telegrams, frame(tables, telegrams), listing, sizeof listing);
     return fwrite(listing, 1, said, stdout) == said ? 0 : 1;
 }

@@ -1,6 +1,6 @@
-// What other languages call. Each function that puts text or telegrams takes bytes and a lent buffer, puts there what the program of the
-// same purpose writes, and answers how many bytes it put. What has no room before the buffer's end is dropped, so that an answer of the
-// buffer's whole length tells that it may be too short. The others answer with a number. include/bravolith.h says the same in C.
+// What other languages call. Each function but `bravolith_write` and `bravolith_word` takes bytes and a lent buffer, puts there text or
+// telegrams as the programs write them, and answers how many bytes it put. What has no room before the buffer's end is dropped, so that
+// an answer of the buffer's whole length tells that it may be too short. include/bravolith.h says the same in C.
 use wire::Verdict;
 ghost use mathlib.Core.Path.{_≡_};
 ghost use lib.ListN.{length};

@@ -1,6 +1,6 @@
 -- `hear`: what is poured and the lines of what is left of the input make the whole, turn by turn; each turn leaves less.
-use Prim.Native.Nat.{ℕ, _-_}
-use mathlib.Core.Path.{_≡_, sym, ap, ap₂, _∙_}
+use Prim.Native.Nat.{ℕ}
+use mathlib.Core.Path.{sym, ap, ap₂, _∙_}
 use mathlib.Core.List.{List}
 use lib.ListN.{length}
 use borrow.Rule.Slice.PartAt.{part-to-end}
