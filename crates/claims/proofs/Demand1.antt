@@ -75,10 +75,10 @@ train =
       defined = λ κs handed answer other lasts others p q. (updating-apart answer other (agree p q), refl);
       refused = λ κs (signals, (present, (telegram, _))) updated lasts p.
           subst⁻¹ (λ (u : Updating). present ≡ true → RefusedBy (trainRows (telegram .now)) refusalUnder (u .noted)) p (call-refused signals (telegram .now) present);
-      absent = λ κs (signals, (present, (telegram, _))) updated lasts p.
-          subst⁻¹ (λ (u : Updating). present ≡ false → (u .noted ≡ absence) × (u .signals ≡ missedBy signals)) p (call-absent signals (telegram .now) present);
       accepted = λ κs (signals, (present, (telegram, _))) updated lasts p.
           subst⁻¹ (λ (u : Updating). present ≡ true → (u .noted ≡ acceptance) ↔ Silent (trainRows (telegram .now))) p (call-accepted signals (telegram .now) present);
+      absent = λ κs (signals, (present, (telegram, _))) updated lasts p.
+          subst⁻¹ (λ (u : Updating). present ≡ false → (u .noted ≡ absence) × (u .signals ≡ missedBy signals)) p (call-absent signals (telegram .now) present);
       missed = λ κs (signals, (present, (telegram, _))) updated lasts p.
           subst⁻¹ (λ (u : Updating). (number : ℕ) → u .noted ≡ refusalUnder number → u .signals ≡ missedBy signals) p (call-missed signals (telegram .now) present);
     }
@@ -90,10 +90,10 @@ train-lent =
           both-facts 𝓤 _ _ _ (λ p q. (noted-apart answer other (agree (p .0) (q .0)), ap (λ after. (after, (tt, (tt, tt)))) (agree (p .1) (q .1))));
       refused = λ M 𝓤 H A mem run κs (held, (present, (telegram, _))) ghost answer lasts.
           fact-mono 𝓤 _ _ (λ p. subst⁻¹ (λ a. present ≡ true → RefusedBy (trainRows (telegram .now)) refusalUnder a) (p .0) (call-refused (held .now) (telegram .now) present));
-      absent = λ M 𝓤 H A mem run κs (held, (present, (telegram, _))) ghost answer lasts.
-          fact-mono 𝓤 _ _ (λ p none. given (call-absent (held .now) (telegram .now) present none) (λ (noted, record-after). (p .0 ∙ noted, p .1 ∙ record-after)));
       accepted = λ M 𝓤 H A mem run κs (held, (present, (telegram, _))) ghost answer lasts.
           fact-mono 𝓤 _ _ (λ p. subst⁻¹ (λ a. present ≡ true → (a ≡ acceptance) ↔ Silent (trainRows (telegram .now))) (p .0) (call-accepted (held .now) (telegram .now) present));
+      absent = λ M 𝓤 H A mem run κs (held, (present, (telegram, _))) ghost answer lasts.
+          fact-mono 𝓤 _ _ (λ p none. given (call-absent (held .now) (telegram .now) present none) (λ (noted, kept). (p .0 ∙ noted, p .1 ∙ kept)));
       missed = λ M 𝓤 H A mem run κs (held, (present, (telegram, _))) ghost answer lasts.
           fact-mono 𝓤 _ _ (λ p number e. p .1 ∙ call-missed (held .now) (telegram .now) present number (sym (p .0) ∙ e));
     }

@@ -62,12 +62,14 @@ pub record Telegrams : Type 0 where
 -- ---- and those from the train: `Signals::update(signals, present, telegram)`
 
 pub record TrainTelegrams : Type 0 where
-  -- M-1b, M-1d, R-10, R-16, R-17, R-22: a telegram is refused under the number of document 01; S-14: a call with none is not refused
+  -- M-1b: there is one answer and one next record
   pub defined : OneAnswer update.ended update.Reads.Learnt
+  -- M-1d, R-10, R-16, R-17, R-22: a telegram is refused under the number of document 01
   pub refused : OfUpdate (λ signals present telegram updated. present ≡ true → RefusedBy (trainRows telegram) refusalUnder (notedOf (updated .answer)))
-  pub absent : OfUpdate (λ signals present telegram updated. present ≡ false → (notedOf (updated .answer) ≡ absence) × (updated .signals ≡ missedBy signals))
-  -- R-23: and it is accepted when no row holds, and never else
+  -- R-23, C-08: and it is accepted when no row holds, and never else, so that no reader may miss a good one
   pub accepted : OfUpdate (λ signals present telegram updated. present ≡ true → (notedOf (updated .answer) ≡ acceptance) ↔ Silent (trainRows telegram))
+  -- S-13, S-14: a call with none is a miss, and is not refused
+  pub absent : OfUpdate (λ signals present telegram updated. present ≡ false → (notedOf (updated .answer) ≡ absence) × (updated .signals ≡ missedBy signals))
   -- M-1f, S-13, S-20, R-24: a refused one is a miss, and changes nothing else
   pub missed : OfUpdate (λ signals present telegram updated. (number : ℕ) → notedOf (updated .answer) ≡ refusalUnder number → updated .signals ≡ missedBy signals)
 
@@ -75,8 +77,8 @@ pub record TrainTelegrams : Type 0 where
 pub record TrainTelegramsLent : Type 2 where
   pub defined : Asserted.OneAnswer update-lent.ended (λ M 𝓤. update-lent.clauses 𝓤)
   pub refused : OfUpdateLent (λ signals present telegram answer after. present ≡ true → RefusedBy (trainRows telegram) refusalUnder (notedOf answer))
-  pub absent : OfUpdateLent (λ signals present telegram answer after. present ≡ false → (notedOf answer ≡ absence) × (after ≡ missedBy signals))
   pub accepted : OfUpdateLent (λ signals present telegram answer after. present ≡ true → (notedOf answer ≡ acceptance) ↔ Silent (trainRows telegram))
+  pub absent : OfUpdateLent (λ signals present telegram answer after. present ≡ false → (notedOf answer ≡ absence) × (after ≡ missedBy signals))
   pub missed : OfUpdateLent (λ signals present telegram answer after. (number : ℕ) → notedOf answer ≡ refusalUnder number → after ≡ missedBy signals)
 
 -- ---- "buffer and packet number": `desk_writer::write(desk, packet, buffer)`

@@ -68,13 +68,13 @@ pub record ReadBack : Type 0 where
 
 -- ---- "An invalid code never shows as a valid state."
 
--- S-17, R-26: the record after these calls, the newest first
+-- S-17, R-26: the record of this page: what a fresh one has become after these calls, the newest first
 unfoldable pub recordAfter : List Call → Signals
 recordAfter [] = freshSignals
 recordAfter ((present, telegram) ∷ earlier) = updateOf (recordAfter earlier) present telegram .signals
 
--- C-08: that record is the public functions': a fresh one is what the maker gives, and each call makes the next of the one before it,
--- whether the record is handed over or lent
+-- C-08: it is the public functions that make that record: a fresh one is what the maker gives, and a call leaves the next of the one
+-- that it found, whether the record is handed over or lent
 pub record TheSignalReader : Type 2 where
   pub fresh-signals : OfFreshSignals (λ signals. signals ≡ recordAfter [])
   pub updates : (earlier : List Call) → OfUpdate (λ signals present telegram updated. signals ≡ recordAfter earlier → updated .signals ≡ recordAfter ((present, telegram) ∷ earlier))
