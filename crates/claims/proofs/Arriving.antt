@@ -190,7 +190,7 @@ module _ (lists : List (List ℕ)) (good : Accepted eight eight lists) (list : L
         slot = slot j new;
         has = has-slot j new;
         free = λ t. omega (arith, taken-there j inlist (slot j new) t, free-there (turned j) (given-slot j new .0));
-        lowest = λ k below. taken-here j inlist k (free-before (turned j) k below);
+        lowest = λ k below. taken-here j inlist k (free-before (turned j) k (omega arith));
         range = (omega (arith, is, after-others), omega (arith, is, after-others));
         permitted =
             permitted-here j inlist (numberIn after (slot j new)) (omega (arith, is, after-others))
@@ -199,7 +199,7 @@ module _ (lists : List (List ℕ)) (good : Accepted eight eight lists) (list : L
         last-given = last-at j inlist;
         first = λ other low high between permitted.
             given
-            (between-before (lastAt j) (find .others) other (last-small j inlist) (find .few) low high
+            (between-before (lastAt j) (find .others) other (last-small j inlist) (find .few) low (omega arith)
             (subst (λ n. Between (lastAt j) other n) (is ∙ after-others) between))
             (λ (others, fewer, same).
             clash (permitted-there j inlist other low permitted) (subst (λ n. isPermitted resting (turned j) n ≡ false) same (find .passed others fewer)));

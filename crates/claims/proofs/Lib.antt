@@ -10,3 +10,4 @@ pub mod OneStep
 pub mod Regular
 pub mod Sequences
 pub mod Step
+pub mod StepDetermined

@@ -34,6 +34,7 @@ use Rattle.desk.proofs.Tracing.{fresh-at, run-sound, older}
 use Rattle.claims.specs.Calls.{deskAfter, accepted, stepsMade, upTo, deskOf, StoodIn}
 use Rattle.claims.specs.Step.{HasSlot, numberIn, NumberRests, OneStep, TheStep}
 use Rattle.claims.proofs.History.{desk-run, history-next, Span, span}
+use Rattle.claims.proofs.StepDetermined.{alike}
 use Rattle.claims.proofs.OneStep.{fresh-says, ending-of, one-step}
 
 -- R-26: the calls of a fresh desk
@@ -171,6 +172,7 @@ step =
           subst (λ (d : Desk). (d .step ≡ 0) × (d .last ≡ 0) × ((i : ℕ) → placeAt (d .places) i ≡ freePlace)) (sym p) (fresh-says .0, fresh-says .1, fresh-at eight);
       made = λ desk. (made-calls, λ (calls, e). subst Made (sym e) (calls-made calls));
       steps-so = λ κs (desk, (list, _)) answer lasts p calls. steps-one calls desk (list .now) answer p;
+      determined = λ calls list one other. alike (accepted eight calls) (deskAfter eight calls) list one other (made-sound (calls-made calls) .below);
       eight-tables = λ calls n order i made has gone m k late soon. eight-tables calls n order i made has gone m k late (omega arith);
       few-rest = λ calls numbers different rest-all. omega (arith, few-rest calls numbers different rest-all);
       one-permitted = one-permitted;

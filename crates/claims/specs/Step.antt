@@ -154,6 +154,15 @@ pub record OneStep (lists : List (List ℕ)) (before : Desk) (list : List ℕ) (
   pub rests : (number : ℕ) → 1 ≤ number → (isResting eight (after .step) (after .ended) number ≡ true) ↔ NumberRests (list ∷ lists) number
   pub p5 : P5ForEveryStep lists before list after
 
+-- two desks are alike in all that is told above: step number, last number given, the order, number, type and words of each slot, and which
+-- numbers rest
+pub record Alike (one other : Desk) : Type 0 where
+  pub step : one .step ≡ other .step
+  pub last : one .last ≡ other .last
+  pub orders : (i : ℕ) → placeAt (one .places) i .order ≡ placeAt (other .places) i .order
+  pub table : (i : ℕ) → codedOf (placeAt (one .places) i .slot) ≡ codedOf (placeAt (other .places) i .slot)
+  pub rests : (number : ℕ) → 1 ≤ number → isResting eight (one .step) (one .ended) number ≡ isResting eight (other .step) (other .ended) number
+
 -- ---- all steps, the calls of a fresh desk standing the newest first
 
 pub record TheStep : Type 0 where
@@ -164,6 +173,9 @@ pub record TheStep : Type 0 where
   -- "An accepted list makes one step" (D-02)
   pub steps-so : OfAccept (λ desk list answer. (calls : List (List ℕ)) → desk ≡ deskAfter eight calls → answer .verdict ≡ Accepted
       → OneStep (accepted eight calls) desk list (answer .desk))
+  -- and what is told of a step leaves nothing of it open: desks of which it is true are alike
+  pub determined : (calls : List (List ℕ)) (list : List ℕ) (one other : Desk) → OneStep (accepted eight calls) (deskAfter eight calls) list one
+      → OneStep (accepted eight calls) (deskAfter eight calls) list other → Alike one other
   -- "So eight tables in a row go without it.": where an order has slot i in step n and is absent from the list of step n + 1, the tables
   -- of steps n + 1 to n + 8 go without its number (D-13)
   pub eight-tables : (calls : List (List ℕ)) (n order i : ℕ) → n + 1 ≤ stepsMade eight calls → HasSlot (deskOf eight calls n) order i
