@@ -13,8 +13,7 @@ framedTelegrams input = map (λ (call : Call). call .1) (callsOf noBare input)
 
 -- `short telegram` and a line feed
 unfoldable pub shortTelegramLine : List ℕ
-shortTelegramLine = ascii "short telegram
-"
+shortTelegramLine = ascii "short telegram\n"
 
 -- M-1b, G-03, G-07: the lines of them, heard one after another, and that of an input that ends inside one
 unfoldable pub linesHeardBy : Listener → List ℕ → List ℕ
