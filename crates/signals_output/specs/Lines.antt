@@ -49,7 +49,7 @@ stateWords states =
 
 -- the answer, the miss count, the states, and a line feed
 unfoldable pub lineOf : Updating → List ℕ
-lineOf updating = answerWords (updating .noted) ++ (missesWord (updating .signals .misses) ++ (stateWords (updating .signals .states) ++ (10 ∷ [])))
+lineOf updating = answerWords (updating .noted) ++ (missesWord (updating .signals .misses) ++ (stateWords (updating .signals .states) ++ ascii "\n"))
 
 -- where the input ends inside a call
 unfoldable pub shortLine : List ℕ
