@@ -19,7 +19,7 @@ use Rattle.listener.proofs.Hearing.{fresh-unmarked}
 use Rattle.claims.specs.Calls.{deskOf, tableIn}
 use Rattle.claims.specs.Hearings.{Item, sent, wholes}
 use Rattle.claims.specs.Ends.{Binding, message, Sent, Premises, pictureOf, Carried, Claim}
-use Rattle.claims.proofs.Following.{packetOf, marksFor, Falling, falling, shown, right, answered}
+use Rattle.claims.proofs.Following.{telegramIn, marksFor, Falling, falling, shown, right, answered}
 use Rattle.claims.proofs.History.{sound, step-is, table-twenty, table-apart, occupied-ordered, again-stood, stood-again}
 
 -- M-2d: reading a written telegram gives that telegram
@@ -29,10 +29,10 @@ ReadsBack binding = (t : Telegram) → Sendable t → binding .Carries t → bin
 module _ (rest limit : ℕ) (enough : limit ≤ rest) (few : rest ≤ 11) {Message : Type 0} (binding : Binding Message) (back : ReadsBack binding) (calls : List (List ℕ)) where
   -- a telegram that was sent is read as it was sent
   read-back : (n p : ℕ) → Sent rest limit binding calls n p
-      → binding .read (message rest limit binding calls (sent n p)) ≡ record { verdict = Accepted; telegram = packetOf rest limit binding calls n p }
+      → binding .read (message rest limit binding calls (sent n p)) ≡ record { verdict = Accepted; telegram = telegramIn rest limit binding calls n p }
   read-back n p (made, low, high, carries) =
       let step = step-is rest few calls n made in
-      let telegram : telegramOf (deskOf rest calls n) p ≡ packetOf rest limit binding calls n p =
+      let telegram : telegramOf (deskOf rest calls n) p ≡ telegramIn rest limit binding calls n p =
       telegram-is (deskOf rest calls n) p ∙ (λ i. record { packet = p; step = step i; slots = fourOf (tableIn rest calls n) p }) in
       back (telegramOf (deskOf rest calls n) p) (packet-sendable (sound rest few calls n) p low high) carries
       ∙ (λ i. record { verdict = Accepted; telegram = telegram i })

@@ -53,8 +53,8 @@ module _ (rest limit : ℕ) {Message : Type 0} (binding : Binding Message) (call
   got r n k = wasHeard r n (firstPacket + k)
 
   -- packet p of the table of step n
-  abbrev pub packetOf : ℕ → ℕ → Telegram
-  packetOf n p = record { packet = p; step = n % steps; slots = fourOf (T n) p }
+  abbrev pub telegramIn : ℕ → ℕ → Telegram
+  telegramIn n p = record { packet = p; step = n % steps; slots = fourOf (T n) p }
 
   -- the marks of the newest table, by the one before it
   abbrev pub marksFor : List ℕ → List Bool
@@ -100,11 +100,11 @@ module _ (rest limit : ℕ) {Message : Type 0} (binding : Binding Message) (call
         (λ k. rw (wholes-old n p r w) (near n))
         (gathered-as (got (sent n p ∷ r) m) (λ k small. heard-other n p r m (firstPacket + k) other) g)
 
-    follow-old : (l : Listener) (before : List ℕ) → wholes r ≡ n ∷ before → 3 ≤ p → p ≤ 7 → Rel r l → Follows (sent n p) r (heardOf limit l (packetOf n p))
+    follow-old : (l : Listener) (before : List ℕ) → wholes r ≡ n ∷ before → 3 ≤ p → p ≤ 7 → Rel r l → Follows (sent n p) r (heardOf limit l (telegramIn n p))
     unfolding Follows
     follow-old l before newest low high v =
         let last : isLast (l .last) (n % steps) ≡ true = rw (v .shown .last, newest) (same-last (n % steps)) in
-        rw (heard-last limit l (packetOf n p) last, packet-heard r n p w low high) (
+        rw (heard-last limit l (telegramIn n p) last, packet-heard r n p w low high) (
           record { shown = subst (λ s. Shown s l) (sym (wholes-old n p r w)) (v .shown); hand = hand-old (l .hand) (v .hand) },
           refl,
         )
@@ -165,13 +165,13 @@ module _ (rest limit : ℕ) {Message : Type 0} (binding : Binding Message) (call
           (gathered-as (got (sent n p ∷ r) n) (λ k small. unchanged (firstPacket + k)) (subst (λ k. Gathered (T k) (k % steps) (got r k) hand) e g)))
           (λ other. absurd (clash heard (heard-above n m r p below (omega (arith, there n after, eqb-false m n other)))))
 
-      follow-copy : (l : Listener) → Rel r l → Follows (sent n p) r (heardOf limit l (packetOf n p))
+      follow-copy : (l : Listener) → Rel r l → Follows (sent n p) r (heardOf limit l (telegramIn n p))
       unfolding Follows
       follow-copy l v =
           let same : firstPacket + (p - firstPacket) ≡ p = omega arith in
           let copy : isHeld (setFor (l .hand) (n % steps)) p ≡ true =
           gathered-held (ready (l .hand) (v .hand)) p low high ∙ (ap (λ q. wasHeard r n q) same ∙ heard) in
-          rw (heard-copy limit l (packetOf n p) (not-last l (v .shown)) copy, heard) (
+          rw (heard-copy limit l (telegramIn n p) (not-last l (v .shown)) copy, heard) (
             record { shown = subst (λ s. Shown s l) (sym (wholes-part n p r still-part)) (v .shown); hand = hand-copy (l .hand) (v .hand) },
             refl,
           )
@@ -182,7 +182,7 @@ module _ (rest limit : ℕ) {Message : Type 0} (binding : Binding Message) (call
       set = setFor (l .hand) (n % steps)
 
       abbrev with-it : Hand
-      with-it = joined set (packetOf n p)
+      with-it = joined set (telegramIn n p)
 
       gathered : Gathered (T n) (n % steps) (got (sent n p ∷ r) n) with-it
       gathered =
@@ -199,10 +199,10 @@ module _ (rest limit : ℕ) {Message : Type 0} (binding : Binding Message) (call
       whole-is = gathered-whole gathered
 
       -- the table is not yet whole: it is held
-      follow-part : isWhole (sent n p ∷ r) n ≡ false → Follows (sent n p) r (heardOf limit l (packetOf n p))
+      follow-part : isWhole (sent n p ∷ r) n ≡ false → Follows (sent n p) r (heardOf limit l (telegramIn n p))
       unfolding Follows
       follow-part part =
-          rw (heard-part limit l (packetOf n p) (not-last l (v .shown)) free (whole-is ∙ part), unheard, part) (
+          rw (heard-part limit l (telegramIn n p) (not-last l (v .shown)) free (whole-is ∙ part), unheard, part) (
             record {
               shown = subst (λ s. Shown s (holding l with-it)) (sym (wholes-part n p r part)) same;
               hand = busy n part (omega arith, after) (λ k later. later .0) (λ k. rw (wholes-part n p r part) near) gathered;
@@ -240,10 +240,10 @@ module _ (rest limit : ℕ) {Message : Type 0} (binding : Binding Message) (call
             let other : k ≡ n → ⊥ = λ same. whole-apart (sent n p ∷ r) n k whole part (sym same) in
             heard-other n p r k q other ∙ heard-above k n r q after (omega (arith, later .0, other)))
 
-        follow-whole : Follows (sent n p) r (heardOf limit l (packetOf n p))
+        follow-whole : Follows (sent n p) r (heardOf limit l (telegramIn n p))
         unfolding Follows
         follow-whole =
-            rw (heard-taken limit l (packetOf n p) (not-last l (v .shown)) free (whole-is ∙ whole) (ap clashes table-is ∙ apart), unheard, whole) (
+            rw (heard-taken limit l (telegramIn n p) (not-last l (v .shown)) free (whole-is ∙ whole) (ap clashes table-is ∙ apart), unheard, whole) (
               record { shown = subst (λ s. Shown s (takenBy limit l with-it)) (sym (wholes-new n p r whole u)) shown-taken; hand = hand-taken },
               answer-is,
             )
@@ -302,16 +302,16 @@ module _ (rest limit : ℕ) {Message : Type 0} (binding : Binding Message) (call
 
   -- ---- the theorem, of tables of twenty slots whose numbers do not clash, and whose packets are read as they were sent
   module _ (twenty : (n : ℕ) → length (T n) ≡ slots) (apart : (n : ℕ) → clashes (T n) ≡ false)
-      (back : (n p : ℕ) → Sent rest limit binding calls n p → binding .read (message rest limit binding calls (sent n p)) ≡ record { verdict = Accepted; telegram = packetOf n p }) where
-    heard-as : (l : Listener) (n p : ℕ) → Sent rest limit binding calls n p → hearOf limit l (binding .read (message rest limit binding calls (sent n p))) ≡ heardOf limit l (packetOf n p)
-    heard-as l n p s = ap (hearOf limit l) (back n p s) ∙ hear-as limit l (record { verdict = Accepted; telegram = packetOf n p }) refl
+      (back : (n p : ℕ) → Sent rest limit binding calls n p → binding .read (message rest limit binding calls (sent n p)) ≡ record { verdict = Accepted; telegram = telegramIn n p }) where
+    heard-as : (l : Listener) (n p : ℕ) → Sent rest limit binding calls n p → hearOf limit l (binding .read (message rest limit binding calls (sent n p))) ≡ heardOf limit l (telegramIn n p)
+    heard-as l n p s = ap (hearOf limit l) (back n p s) ∙ hear-as limit l (record { verdict = Accepted; telegram = telegramIn n p }) refl
 
     follow-late : (l : Listener) (n p : ℕ) (r : List (Item Message)) (before : List ℕ) → Sent rest limit binding calls n p → wholes r ≡ n ∷ before → Rel r l
-        → Follows (sent n p) r (heardOf limit l (packetOf n p))
+        → Follows (sent n p) r (heardOf limit l (telegramIn n p))
     follow-late l n p r before s newest = follow-old n p r (newest-whole r n before newest) l before newest (s .1) (s .2)
 
     follow-next : (l : Listener) (n p : ℕ) (r : List (Item Message)) → Premises rest limit binding calls r → Sent rest limit binding calls n p → NoneAfter n r
-        → Near n r → Rel r l → Follows (sent n p) r (heardOf limit l (packetOf n p))
+        → Near n r → Rel r l → Follows (sent n p) r (heardOf limit l (telegramIn n p))
     follow-next l n p r h s after bound v =
         on (isWhole r n)
         (λ w.
