@@ -1,6 +1,7 @@
 //! Holds the writing of packets: any packet number, into a buffer of any
 //! length, by the desk after any lists.
 
+use crate::author::Author;
 use crate::desk_regimes::{distance_edges, ends_inside, mixed_churn, refused_between, twenty_new};
 use crate::hold::hex;
 use crate::proved;
@@ -15,7 +16,7 @@ pub struct Writing {
     asked: fn(&mut Random) -> Vec<(u8, usize)>,
 }
 
-pub const WRITINGS: [Writing; 2] = [
+pub const WRITINGS: [Writing; 3] = [
     Writing {
         regime: Regime {
             name: "every-packet-and-length",
@@ -32,6 +33,15 @@ pub const WRITINGS: [Writing; 2] = [
             sentence:
                 "After any lists packets 0 to 9, 255 and others are asked for, lengths near 26.",
             make: any_lists,
+            times: Times::InTurn,
+        },
+        asked: near_ones,
+    },
+    Writing {
+        regime: Regime {
+            name: "packets-after-a-refused-list",
+            sentence: "The last list is refused, with other words for live orders, new ones and lost ones.",
+            make: refused_last,
             times: Times::InTurn,
         },
         asked: near_ones,
@@ -64,6 +74,24 @@ fn any_lists(random: &mut Random) -> Vec<u8> {
         // A fresh desk's table can be written like any other.
         _ => Vec::new(),
     }
+}
+
+fn refused_last(random: &mut Random) -> Vec<u8> {
+    let mut author = Author::new(random);
+    for _ in 0..author.random.between(1, 12) {
+        let begun = author.random.between(1, 6);
+        author.end(2);
+        author.begin(begun);
+        author.put_live();
+    }
+    let ended = author.random.below(3);
+    let begun = author.random.below(3);
+    author.end(ended);
+    author.begin(begun);
+    author.change_words();
+    let fault = author.random.between(1, 8) as u8;
+    author.put_faulty(fault);
+    author.input
 }
 
 fn every_one(_: &mut Random) -> Vec<(u8, usize)> {

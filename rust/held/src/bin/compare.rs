@@ -36,7 +36,7 @@ fn options() -> Result<Options, String> {
     let mut options = Options {
         seed: 1435,
         lists: 600_000,
-        writes: 40_000,
+        writes: 60_000,
         telegrams: 3_000_000,
         heard: 500_000,
         calls: 600_000,
