@@ -21,12 +21,12 @@ use Rattle.listener.specs.Listeners.{carries, freshListener, hearOf}
 use Rattle.listener.specs.Answers.{hearingOf}
 use Rattle.listener.specs.declared.Heard.{Heard}
 use Rattle.listener.specs.declared.Listener.{Listener}
-use Rattle.signals.specs.Signals.{updateOf}
+use Rattle.signals.specs.Signals.{freshSignals, updateOf}
 use Rattle.signals.specs.declared.Answer as Train
 use Rattle.signals.specs.declared.Signals.{Signals}
 use Rattle.signals.specs.Answers.{notedOf, updatingOf}
 use Rattle.signals.specs.declared.Updated.{Updated}
-use Rattle.claims.specs.Functions.{OfDistance, OfRead, OfWriteTelegram, OfFreshDesk, OfAccept, OfTable, OfWrite, OfFreshListener, OfHear, OfUpdate, OfUpdateLent}
+use Rattle.claims.specs.Functions.{OfDistance, OfRead, OfWriteTelegram, OfFreshDesk, OfAccept, OfTable, OfWrite, OfFreshListener, OfFreshSignals, OfHear, OfUpdate, OfUpdateLent}
 
 -- bytes that are lent, wherever they stand
 abbrev lent : List ℕ → RefT (List ℕ)
@@ -66,6 +66,12 @@ pub fresh-listener-says : (Such : Listener → Type 0) → OfFreshListener Such 
 fresh-listener-says Such = (
   λ promised. promised tt tt freshListener tt refl,
   λ plain κs _ listener lasts p. subst⁻¹ Such p plain,
+)
+
+pub fresh-signals-says : (Such : Signals → Type 0) → OfFreshSignals Such ↔ Such freshSignals
+fresh-signals-says Such = (
+  λ promised. promised tt tt freshSignals tt refl,
+  λ plain κs _ signals lasts p. subst⁻¹ Such p plain,
 )
 
 -- a buffer that may be changed: its last value is as much of the outcome as the answer is
