@@ -5,7 +5,7 @@ use mathlib.Core.Bool.{Bool, cond}
 use mathlib.Core.List.{List}
 use lib.ListN.{set}
 use Rattle.kit.specs.Loops.{fold}
-use Rattle.condition.specs.Slots.{slots}
+use Rattle.condition.specs.Slots.{slotCount}
 use Rattle.order_list.specs.Lists.{orderAt, foundAt}
 use Rattle.order_list.specs.declared.Order.{Order}
 use Rattle.places.specs.Places.{lowestFree, isLive}
@@ -26,7 +26,7 @@ seated resting order seats =
 
 -- each order of the list from one up to another is among these orders
 abbrev pub AllFound : List ℕ → List ℕ → ℕ → ℕ → Type 0
-AllFound live list from to = (j : ℕ) → from ≤ j → j < to → foundAt live (orderAt list j .number) < slots
+AllFound live list from to = (j : ℕ) → from ≤ j → j < to → foundAt live (orderAt list j .number) < slotCount
 
 -- D-08: in list order
 unfoldable pub seatedAll : (ℕ → Bool) → List ℕ → Seats → ℕ → Seats

@@ -7,7 +7,7 @@ use mathlib.Core.Bool.{Bool, true, false}
 use mathlib.Core.List.{List, _∷_}
 use native.Mathlib.Omega.{arith}
 use Rattle.kit.proofs.Cases.{on, clash, given}
-use Rattle.condition.specs.Slots.{slots}
+use Rattle.condition.specs.Slots.{slotCount}
 use Rattle.order_list.specs.Lists.{stands, orderAt, orderCount, listedAt}
 use Rattle.order_list.proofs.Listed.{listed-there, listed-when}
 use Rattle.places.specs.Places.{placeAt, placeOf, lowestFree, isLive}
@@ -18,8 +18,8 @@ use Rattle.orders.proofs.Lists.{Fair, fair}
 use Rattle.numbers.specs.Numbers.{hasNumber, isPermitted, nextNumber, numberAfter}
 use Rattle.numbers.proofs.Round.{between-before}
 use Rattle.numbers.proofs.Search.{FirstPermitted, number-none, number-some, permitted-when, permitted-only}
-use Rattle.desk.specs.Desks.{rest as eight}
-use Rattle.desk.specs.Runs.{run, Accepted}
+use Rattle.desk.specs.Desks.{baseRest as eight}
+use Rattle.desk.specs.Runs.{deskRun, AllAccepted}
 use Rattle.desk.specs.Steps.{stepOf}
 use Rattle.desk.specs.declared.Desk.{Desk}
 use Rattle.desk.proofs.NewOrders as new-orders
@@ -49,9 +49,9 @@ unlive-test desk order p none = on (isLive (desk .places) order) (λ e. absurd (
 
 -- ---- a list that is accepted after these
 
-module _ (lists : List (List ℕ)) (good : Accepted eight eight lists) (list : List ℕ) (unrefused : listRefusal (run eight eight lists .places) list ≡ 0) where
+module _ (lists : List (List ℕ)) (good : AllAccepted eight eight lists) (list : List ℕ) (unrefused : listRefusal (deskRun eight eight lists .places) list ≡ 0) where
   abbrev before : Desk
-  before = run eight eight lists
+  before = deskRun eight eight lists
 
   abbrev after : Desk
   after = stepOf eight before list
@@ -77,7 +77,7 @@ module _ (lists : List (List ℕ)) (good : Accepted eight eight lists) (list : L
 
   -- D-12: what rests in this step
   rests-now : (number : ℕ) → 1 ≤ number → (resting number ≡ true) ↔ NumberRests (list ∷ lists) number
-  unfolding run stepOf
+  unfolding deskRun stepOf
   rests-now number p = resting-exactly eight eight (omega arith) (omega arith) (list ∷ lists) number (unrefused, good) p
 
   to-the-end : (j k : ℕ) → j ≤ orderCount list → 1 ≤ placeAt (turned j) k .order → placeAt (after .places) k ≡ placeAt (turned j) k
@@ -141,7 +141,7 @@ module _ (lists : List (List ℕ)) (good : Accepted eight eight lists) (list : L
     abbrev slot : ℕ
     slot = lowestFree (turned j)
 
-    given-slot : (slot < slots) × (placeAt (after .places) slot .order ≡ named j) × (numberIn after slot ≡ number)
+    given-slot : (slot < slotCount) × (placeAt (after .places) slot .order ≡ named j) × (numberIn after slot ≡ number)
     given-slot =
         given
         (new-orders.given-slot eight eight (omega arith) (omega arith) before sound list listed j (new .0) (unlive-test before (named j) (listed .named j (new .0)) (new .1)))

@@ -6,7 +6,7 @@ use mathlib.Core.List.{List}
 use mathlib.Core.Logic.{_↔_}
 use contract.Monad.{fact-mono}
 use lib.ListN.{length}
-use Rattle.kit.specs.Ladder.{Silent}
+use Rattle.kit.specs.Ladder.{NoneHolds}
 use Rattle.kit.proofs.Cases.{given}
 use Rattle.kit.proofs.Contracts.{agree, both-facts}
 use Rattle.wire.specs.declared.verdicts.Verdict.the-variants.{Refused}
@@ -14,7 +14,7 @@ use Rattle.telegram.specs.Telegrams.{readRows, writeRows}
 use Rattle.telegram.proofs.Refusals.{reading-refused, writing-refused, refused-untouched}
 use Rattle.train_codes.specs.Refusals.{trainRows}
 use Rattle.orders.specs.Orders.{listRows}
-use Rattle.desk.specs.Desks.{telegramOf}
+use Rattle.desk.specs.Desks.{packetOf}
 use Rattle.desk.proofs.Promises as desk-promises
 use Rattle.hand.specs.Sets.{begun}
 use Rattle.listener.specs.Listeners.{carries, holding, hearRows}
@@ -62,8 +62,8 @@ module _ (signals : Signals) (telegram : List ℕ) where
       let same : updateOf signals present telegram ≡ record { noted = absence; signals = missedBy signals } = ap (λ b. updateOf signals b telegram) none ∙ train-promises.absent-misses signals telegram in
       (ap (λ (u : Updating). u .noted) same, ap (λ (u : Updating). u .signals) same)
 
-  call-accepted : (present : Bool) → present ≡ true → (updateOf signals present telegram .noted ≡ acceptance) ↔ Silent (trainRows telegram)
-  call-accepted present with-one = subst (λ b. (updateOf signals b telegram .noted ≡ acceptance) ↔ Silent (trainRows telegram)) (sym with-one) (train-promises.accepted-exactly signals telegram)
+  call-accepted : (present : Bool) → present ≡ true → (updateOf signals present telegram .noted ≡ acceptance) ↔ NoneHolds (trainRows telegram)
+  call-accepted present with-one = subst (λ b. (updateOf signals b telegram .noted ≡ acceptance) ↔ NoneHolds (trainRows telegram)) (sym with-one) (train-promises.accepted-exactly signals telegram)
 
   call-missed : (present : Bool) (number : ℕ) → updateOf signals present telegram .noted ≡ refusalUnder number → updateOf signals present telegram .signals ≡ missedBy signals
   call-missed true number e = train-promises.refused-misses signals telegram number e
@@ -76,7 +76,7 @@ train =
       refused = λ κs (signals, (present, (telegram, _))) updated lasts p.
           subst⁻¹ (λ (u : Updating). present ≡ true → RefusedBy (trainRows (telegram .now)) refusalUnder (u .noted)) p (call-refused signals (telegram .now) present);
       accepted = λ κs (signals, (present, (telegram, _))) updated lasts p.
-          subst⁻¹ (λ (u : Updating). present ≡ true → (u .noted ≡ acceptance) ↔ Silent (trainRows (telegram .now))) p (call-accepted signals (telegram .now) present);
+          subst⁻¹ (λ (u : Updating). present ≡ true → (u .noted ≡ acceptance) ↔ NoneHolds (trainRows (telegram .now))) p (call-accepted signals (telegram .now) present);
       absent = λ κs (signals, (present, (telegram, _))) updated lasts p.
           subst⁻¹ (λ (u : Updating). present ≡ false → (u .noted ≡ absence) × (u .signals ≡ missedBy signals)) p (call-absent signals (telegram .now) present);
       missed = λ κs (signals, (present, (telegram, _))) updated lasts p.
@@ -91,7 +91,7 @@ train-lent =
       refused = λ M 𝓤 H A mem run κs (held, (present, (telegram, _))) ghost answer lasts.
           fact-mono 𝓤 _ _ (λ p. subst⁻¹ (λ a. present ≡ true → RefusedBy (trainRows (telegram .now)) refusalUnder a) (p .0) (call-refused (held .now) (telegram .now) present));
       accepted = λ M 𝓤 H A mem run κs (held, (present, (telegram, _))) ghost answer lasts.
-          fact-mono 𝓤 _ _ (λ p. subst⁻¹ (λ a. present ≡ true → (a ≡ acceptance) ↔ Silent (trainRows (telegram .now))) (p .0) (call-accepted (held .now) (telegram .now) present));
+          fact-mono 𝓤 _ _ (λ p. subst⁻¹ (λ a. present ≡ true → (a ≡ acceptance) ↔ NoneHolds (trainRows (telegram .now))) (p .0) (call-accepted (held .now) (telegram .now) present));
       absent = λ M 𝓤 H A mem run κs (held, (present, (telegram, _))) ghost answer lasts.
           fact-mono 𝓤 _ _ (λ p none. given (call-absent (held .now) (telegram .now) present none) (λ (noted, kept). (p .0 ∙ noted, p .1 ∙ kept)));
       missed = λ M 𝓤 H A mem run κs (held, (present, (telegram, _))) ghost answer lasts.
@@ -99,13 +99,13 @@ train-lent =
     }
 
 buffers : Buffers
-unfolding telegramOf
+unfolding packetOf
 buffers =
     record {
       defined = λ κs handed answer other lasts others p q. (agree (p .0) (q .0), ap (λ bytes. (tt, (tt, (bytes, tt)))) (agree (p .1) (q .1)));
       refused = λ κs (desk, (packet, (buffer, _))) verdict lasts p.
-          subst⁻¹ (λ v. RefusedBy (writeRows packet (length (buffer .now))) Refused v) (p .0) (writing-refused (telegramOf desk packet) (buffer .now));
-      unchanged = λ κs (desk, (packet, (buffer, _))) verdict lasts p number e. p .1 ∙ refused-untouched (telegramOf desk packet) (buffer .now) number (sym (p .0) ∙ e);
+          subst⁻¹ (λ v. RefusedBy (writeRows packet (length (buffer .now))) Refused v) (p .0) (writing-refused (packetOf desk packet) (buffer .now));
+      unchanged = λ κs (desk, (packet, (buffer, _))) verdict lasts p number e. p .1 ∙ refused-untouched (packetOf desk packet) (buffer .now) number (sym (p .0) ∙ e);
     }
 
 pub demand1 : Demand1

@@ -11,7 +11,7 @@ use Rattle.kit.proofs.Cases.{given}
 use Rattle.wire.specs.Distances.{InRange, distanceWord}
 use Rattle.wire.specs.declared.verdicts.Verdict.the-variants.{Accepted}
 use Rattle.wire.proofs.Metres.{word-said}
-use Rattle.condition.specs.Slots.{Held, settled, codedOf}
+use Rattle.condition.specs.Slots.{MayHold, settled, codedOf}
 use Rattle.condition.proofs.Coding.{coded-back}
 use Rattle.telegram.specs.Sendable.{slotOn, isIdle}
 use Rattle.telegram.specs.Tables.{tableSlot}
@@ -21,7 +21,7 @@ use Rattle.telegram.proofs.Refusals.{reading-accepted, accepted-written, accept
 use Rattle.telegram.proofs.Valid.{length-read, slot-read, slot-meant, never-invalid, accepted-means, accepted-sendable}
 use Rattle.telegram.proofs.Wire.{length-bytes, coded-on, packet-on, step-on}
 use Rattle.telegram.proofs.WriteAgain.{write-again}
-use Rattle.desk.specs.Desks.{Made, tableOf, telegramOf}
+use Rattle.desk.specs.Desks.{Made, tableOf, packetOf}
 use Rattle.desk.specs.declared.Desk.{Desk}
 use Rattle.desk.proofs.Making.{made-sound}
 use Rattle.desk.proofs.Tables.{packet-sendable, packet-read}
@@ -41,11 +41,11 @@ use Rattle.claims.specs.Demand2.{Codes, AsDocument01Says, ReadBack, reco
 -- ---- writing and reading
 
 -- what is written of a desk codes its telegram
-written-codes : (desk : Desk) (packet : ℕ) (buffer : List ℕ) → Made desk → writeVerdict (telegramOf desk packet) buffer ≡ Accepted
-    → Codes (λ c. c) (written (telegramOf desk packet) buffer) (telegramOf desk packet)
-unfolding telegramOf
+written-codes : (desk : Desk) (packet : ℕ) (buffer : List ℕ) → Made desk → writeVerdict (packetOf desk packet) buffer ≡ Accepted
+    → Codes (λ c. c) (written (packetOf desk packet) buffer) (packetOf desk packet)
+unfolding packetOf
 written-codes desk packet buffer made accepted =
-    let t = telegramOf desk packet in
+    let t = packetOf desk packet in
     given (accepted-asked t buffer accepted)
     (λ (low, high, long).
     subst⁻¹ (λ bytes. Codes (λ c. c) bytes t) (accepted-written t buffer accepted)
@@ -79,7 +79,7 @@ coded : AsDocument01Says
 coded =
     record {
       written = λ κs (desk, (packet, (buffer, _))) verdict lasts p made accepted.
-          subst⁻¹ (λ bytes. Codes (λ c. c) bytes (telegramOf desk packet)) (p .1) (written-codes desk packet (buffer .now) made (sym (p .0) ∙ accepted));
+          subst⁻¹ (λ bytes. Codes (λ c. c) bytes (packetOf desk packet)) (p .1) (written-codes desk packet (buffer .now) made (sym (p .0) ∙ accepted));
       read = λ κs (bytes, _) reading lasts p. subst⁻¹ (λ r. r .verdict ≡ Accepted → Codes settled (bytes .now) (r .telegram)) p (read-codes (bytes .now));
       distances = λ κs (word, _) distance lasts p. subst⁻¹ (λ d. word < 0x10000 → InRange d × (distanceWord d ≡ word)) p (word-said word);
       signals = λ κs (signals, (present, (telegram, _))) updated lasts p.
@@ -89,12 +89,12 @@ coded =
     }
 
 -- what was written of a desk is read as it was
-read-written : (desk : Desk) (packet : ℕ) (buffer : List ℕ) → Made desk → writeVerdict (telegramOf desk packet) buffer ≡ Accepted
-    → readOf (written (telegramOf desk packet) buffer) ≡ record { verdict = Accepted; telegram = telegramOf desk packet }
-unfolding telegramOf
+read-written : (desk : Desk) (packet : ℕ) (buffer : List ℕ) → Made desk → writeVerdict (packetOf desk packet) buffer ≡ Accepted
+    → readOf (written (packetOf desk packet) buffer) ≡ record { verdict = Accepted; telegram = packetOf desk packet }
+unfolding packetOf
 read-written desk packet buffer made accepted =
-    given (accepted-asked (telegramOf desk packet) buffer accepted)
-    (λ (low, high, long). ap readOf (accepted-written (telegramOf desk packet) buffer accepted) ∙ packet-read (made-sound made) packet low high)
+    given (accepted-asked (packetOf desk packet) buffer accepted)
+    (λ (low, high, long). ap readOf (accepted-written (packetOf desk packet) buffer accepted) ∙ packet-read (made-sound made) packet low high)
 
 -- what was read is written again
 written-again : (bytes buffer : List ℕ) → Bytes bytes → readOf bytes .verdict ≡ Accepted → length buffer ≡ 26
@@ -106,7 +106,7 @@ written-again bytes buffer fits accepted long i below =
     ∙ write-again bytes fits (reading-accepted bytes .0 accepted) i below
 
 read-back : ReadBack
-unfolding telegramOf
+unfolding packetOf
 read-back =
     record {
       packets = λ κs (desk, (packet, (buffer, _))) verdict lasts p made accepted κs' (bytes, _) reading lasts' q same.
@@ -140,7 +140,7 @@ same-record ((present, telegram) ∷ earlier) = ap (λ (s : Signals). updateOf s
 valid : Valid
 valid =
     record {
-      read = λ κs (bytes, _) reading lasts p. subst⁻¹ (λ r. (k : ℕ) → Held (slotOn (r .telegram) k)) p (never-invalid (bytes .now));
+      read = λ κs (bytes, _) reading lasts p. subst⁻¹ (λ r. (k : ℕ) → MayHold (slotOn (r .telegram) k)) p (never-invalid (bytes .now));
       picture = picture-valid carries;
       signals = λ calls.
           subst⁻¹ (λ (s : Signals). (s .states ≡ silent) ⊎ ((t : List ℕ) × LastAccepted calls t × Shows (s .states) t)) (same-record calls) (shown-from calls);

@@ -5,7 +5,7 @@ use Prim.Native.Nat.{ℕ}
 use native.Mathlib.Omega.{arith}
 use Rattle.telegram.proofs.ReadAgain.{read-again}
 use Rattle.telegram.proofs.Refusals.{accepted-written, packet-accepted}
-use Rattle.desk.specs.Desks.{rest as eight, telegramOf, Made, made, called}
+use Rattle.desk.specs.Desks.{baseRest as eight, packetOf, Made, made, called}
 use Rattle.listener.specs.Listeners.{carries}
 use Rattle.claims.specs.Calls.{deskAfter}
 use Rattle.claims.specs.Hearings.{Item}
@@ -21,14 +21,14 @@ calls-made [] = made
 calls-made (list ∷ calls) = called (calls-made calls) list
 
 functions : TheFunctions
-unfolding telegramOf
+unfolding packetOf
 functions =
     record {
       fresh-desk = λ κs handed desk lasts p. p;
       accepts = λ κs handed answer lasts p. p;
       made = calls-made;
-      writes = λ κs (desk, (packet, (buffer, _))) verdict lasts p accepted. p .1 ∙ accepted-written (telegramOf desk packet) (buffer .now) (sym (p .0) ∙ accepted);
-      writes-five = λ κs (desk, (packet, (buffer, _))) verdict lasts p low high long. p .0 ∙ packet-accepted (telegramOf desk packet) (buffer .now) low high long;
+      writes = λ κs (desk, (packet, (buffer, _))) verdict lasts p accepted. p .1 ∙ accepted-written (packetOf desk packet) (buffer .now) (sym (p .0) ∙ accepted);
+      writes-five = λ κs (desk, (packet, (buffer, _))) verdict lasts p low high long. p .0 ∙ packet-accepted (packetOf desk packet) (buffer .now) low high long;
       fresh-listener = λ κs handed listener lasts p. p;
       hears = λ κs handed heard lasts p. p;
     }

@@ -11,14 +11,14 @@ use Rattle.wire.specs.declared.verdicts.Verdict.the-variants.{Accepted}
 use Rattle.telegram.specs.Tables.{tableSlot, fourOf}
 use Rattle.telegram.specs.Sendable.{Sendable}
 use Rattle.telegram.specs.declared.Telegram.{Telegram}
-use Rattle.desk.specs.Desks.{telegramOf}
+use Rattle.desk.specs.Desks.{packetOf}
 use Rattle.desk.proofs.Tables.{telegram-is, packet-sendable}
 use Rattle.marks.proofs.Carrying.{mark-at, carried-exactly, none-carried}
 use Rattle.listener.specs.Listeners.{markAt}
 use Rattle.listener.proofs.Hearing.{fresh-unmarked}
 use Rattle.claims.specs.Calls.{deskOf, tableIn}
 use Rattle.claims.specs.Hearings.{Item, sent, wholes}
-use Rattle.claims.specs.Ends.{Binding, message, Sent, Premises, pictureOf, Carried, Claim}
+use Rattle.claims.specs.Ends.{Binding, messageOf, Sent, Premises, pictureOf, IsCarriedOn, Claim}
 use Rattle.claims.proofs.Following.{telegramIn, marksFor, Falling, falling, shown, right, answered}
 use Rattle.claims.proofs.History.{sound, step-is, table-twenty, table-apart, occupied-ordered, again-stood, stood-again}
 
@@ -29,17 +29,17 @@ ReadsBack binding = (t : Telegram) → Sendable t → binding .Carries t → bin
 module _ (rest limit : ℕ) (enough : limit ≤ rest) (few : rest ≤ 11) {Message : Type 0} (binding : Binding Message) (back : ReadsBack binding) (calls : List (List ℕ)) where
   -- a telegram that was sent is read as it was sent
   read-back : (n p : ℕ) → Sent rest limit binding calls n p
-      → binding .read (message rest limit binding calls (sent n p)) ≡ record { verdict = Accepted; telegram = telegramIn rest limit binding calls n p }
+      → binding .read (messageOf rest limit binding calls (sent n p)) ≡ record { verdict = Accepted; telegram = telegramIn rest limit binding calls n p }
   read-back n p (made, low, high, carries) =
       let step = step-is rest few calls n made in
-      let telegram : telegramOf (deskOf rest calls n) p ≡ telegramIn rest limit binding calls n p =
+      let telegram : packetOf (deskOf rest calls n) p ≡ telegramIn rest limit binding calls n p =
       telegram-is (deskOf rest calls n) p ∙ (λ i. record { packet = p; step = step i; slots = fourOf (tableIn rest calls n) p }) in
-      back (telegramOf (deskOf rest calls n) p) (packet-sendable (sound rest few calls n) p low high) carries
+      back (packetOf (deskOf rest calls n) p) (packet-sendable (sound rest few calls n) p low high) carries
       ∙ (λ i. record { verdict = Accepted; telegram = telegram i })
 
   -- a mark is set exactly when the condition is carried
   marked : (whole : List ℕ) → Falling rest limit binding calls whole → (i : ℕ)
-      → (markAt (marksFor rest limit binding calls whole) i ≡ true) ↔ Carried rest limit binding calls whole i
+      → (markAt (marksFor rest limit binding calls whole) i ≡ true) ↔ IsCarriedOn rest limit binding calls whole i
   marked [] f i = (λ e. clash e (fresh-unmarked i), λ none. absurd none)
   marked (n ∷ []) f i = (
     λ e. clash e (mark-at limit 0 (pictureOf rest limit binding calls []) (tableIn rest calls n) i ∙ none-carried limit (pictureOf rest limit binding calls []) (tableSlot (tableIn rest calls n) i)),

@@ -15,7 +15,7 @@ use Rattle.wire.specs.Verdicts.{numberOf}
 use Rattle.condition.specs.declared.slots.Slot.{Slot}
 use Rattle.wire.specs.declared.verdicts.Verdict.the-variants.{Accepted}
 use Rattle.telegram.specs.Tables.{packets, firstPacket, fourOf}
-use Rattle.condition.specs.Slots.{slots}
+use Rattle.condition.specs.Slots.{slotCount}
 use Rattle.telegram.specs.declared.Telegram.{Telegram}
 use Rattle.picture.specs.Pictures.{countOf, clashes}
 use Rattle.marks.specs.Marks.{marksOf}
@@ -30,8 +30,8 @@ use Rattle.hand.specs.declared.Hand.{Hand}
 use Rattle.hand.proofs.Gathering.{Gathered, gathered-none, gathered-as, gathered-held, gathered-more, gathered-whole, gathered-table, set-same, set-other, set-first}
 use Rattle.listener.proofs.Hearing.{hear-refused, hear-as, heard-last, heard-copy, heard-part, heard-taken, fresh-picture, fresh-last, fresh-hand, taken-picture, taken-last, taken-marks, taken-hand}
 use Rattle.claims.specs.Calls.{stepsMade, tableIn}
-use Rattle.claims.specs.Hearings.{Item, sent, spoilt, wasHeard, isWhole, wholes, firstOr, NoneAfter, newestOr, farthest, Near}
-use Rattle.claims.specs.Ends.{Binding, message, listenerAfter, Sent, Premises, nothing, next, late, damaged, pictureOf, lastOf, distance, PutRight, expected, Answered}
+use Rattle.claims.specs.Hearings.{Item, sent, spoilt, wasHeard, heardWhole, wholes, firstOr, NoneAfter, newestOr, farthest, Near}
+use Rattle.claims.specs.Ends.{Binding, messageOf, listenerAfter, Sent, Premises, nothing, next, late, damaged, pictureOf, lastOf, trueGap, PutRight, expected, Answered}
 use Rattle.claims.proofs.Sequences.{heard-here, heard-other, heard-above, whole-same, part-before, nothing-whole, heard-spoilt, wholes-spoilt, whole-spoilt, whole-old, whole-other, whole-apart, whole-below, packet-heard, wholes-old, wholes-part, wholes-new, newest-whole, first-below}
 
 -- two steps less than 8,192 apart have different step numbers
@@ -59,7 +59,7 @@ module _ (rest limit : ℕ) {Message : Type 0} (binding : Binding Message) (call
   -- the marks of the newest table, by the one before it
   abbrev pub marksFor : List ℕ → List Bool
   marksFor [] = freshListener .marks
-  marksFor (n ∷ before) = marksOf limit (distance rest limit binding calls before n) (pictureOf rest limit binding calls before) (T n)
+  marksFor (n ∷ before) = marksOf limit (trueGap rest limit binding calls before n) (pictureOf rest limit binding calls before) (T n)
 
   -- ---- what the listener shows, and what it has in hand
 
@@ -70,9 +70,9 @@ module _ (rest limit : ℕ) {Message : Type 0} (binding : Binding Message) (call
 
   data InHand (r : List (Item Message)) (hand : Hand) : Type 0 where
     -- nothing: and nothing was heard of a step that may still come
-    idle : hand ≡ begun 0 → ((n : ℕ) → NoneAfter n r → isWhole r n ≡ false → (q : ℕ) → wasHeard r n q ≡ false) → InHand r hand
+    idle : hand ≡ begun 0 → ((n : ℕ) → NoneAfter n r → heardWhole r n ≡ false → (q : ℕ) → wasHeard r n q ≡ false) → InHand r hand
     -- the packets heard of step m, the newest step heard, which is not whole
-    busy : (m : ℕ) → isWhole r m ≡ false → NoneAfter m r → ((n : ℕ) → NoneAfter n r → m ≤ n) → ((n : ℕ) → newestOr (firstOr n r) (wholes r) ≤ m)
+    busy : (m : ℕ) → heardWhole r m ≡ false → NoneAfter m r → ((n : ℕ) → NoneAfter n r → m ≤ n) → ((n : ℕ) → newestOr (firstOr n r) (wholes r) ≤ m)
         → Gathered (T m) (m % steps) (got r m) hand → InHand r hand
 
   record Rel (r : List (Item Message)) (l : Listener) : Type 0 where
@@ -85,7 +85,7 @@ module _ (rest limit : ℕ) {Message : Type 0} (binding : Binding Message) (call
 
   -- ---- a repeat of the last whole table
 
-  module _ (n p : ℕ) (r : List (Item Message)) (w : isWhole r n ≡ true) where
+  module _ (n p : ℕ) (r : List (Item Message)) (w : heardWhole r n ≡ true) where
     hand-old : (hand : Hand) → InHand r hand → InHand (sent n p ∷ r) hand
     hand-old hand (idle e none) =
         idle e (λ k after part q.
@@ -111,12 +111,12 @@ module _ (rest limit : ℕ) {Message : Type 0} (binding : Binding Message) (call
 
   -- ---- a telegram of a step that is not yet whole
 
-  module _ (n p : ℕ) (r : List (Item Message)) (u : isWhole r n ≡ false) (after : NoneAfter n r)
+  module _ (n p : ℕ) (r : List (Item Message)) (u : heardWhole r n ≡ false) (after : NoneAfter n r)
       (bound : Near n r) (low : 3 ≤ p) (high : p ≤ 7) where
     -- the newest whole table is an earlier one, within the bound
     newest-near : (m : ℕ) (before : List ℕ) → wholes r ≡ m ∷ before → (m < n) × (n ≤ m + farthest)
     newest-near m before e =
-        let w : isWhole r m ≡ true = newest-whole r m before e in
+        let w : heardWhole r m ≡ true = newest-whole r m before e in
         (omega (arith, whole-apart r m n w u, whole-below m n r after w), rw e at bound)
 
     not-last : (l : Listener) → Shown (wholes r) l → isLast (l .last) (n % steps) ≡ false
@@ -126,10 +126,10 @@ module _ (rest limit : ℕ) {Message : Type 0} (binding : Binding Message) (call
         go [] e = never-last (n % steps)
         go (m ∷ before) e = other-last (m % steps) (n % steps) (steps-apart m n (newest-near m before e .0) (newest-near m before e .1))
 
-    gap-is : (l : Listener) → Shown (wholes r) l → gapFrom (l .last) (n % steps) ≡ distance rest limit binding calls (wholes r) n
+    gap-is : (l : Listener) → Shown (wholes r) l → gapFrom (l .last) (n % steps) ≡ trueGap rest limit binding calls (wholes r) n
     gap-is l v = rw (v .last) (go (wholes r) refl)
       where
-        go : (whole : List ℕ) → wholes r ≡ whole → gapFrom (lastOf rest limit binding calls whole) (n % steps) ≡ distance rest limit binding calls whole n
+        go : (whole : List ℕ) → wholes r ≡ whole → gapFrom (lastOf rest limit binding calls whole) (n % steps) ≡ trueGap rest limit binding calls whole n
         go [] e = never-gap (n % steps)
         go (m ∷ before) e = step-gap m n (omega (arith, newest-near m before e .0)) (omega (arith, newest-near m before e .1))
 
@@ -151,7 +151,7 @@ module _ (rest limit : ℕ) {Message : Type 0} (binding : Binding Message) (call
       unchanged : (q : ℕ) → wasHeard (sent n p ∷ r) n q ≡ wasHeard r n q
       unchanged q = heard-here n p r q ∙ on (eqb q p) (λ e. rw (e, eqb-true q p e, heard) refl) (λ e. rw e refl)
 
-      still-part : isWhole (sent n p ∷ r) n ≡ false
+      still-part : heardWhole (sent n p ∷ r) n ≡ false
       still-part = whole-same (sent n p ∷ r) r n unchanged ∙ u
 
       hand-copy : (hand : Hand) → InHand r hand → InHand (sent n p ∷ r) hand
@@ -194,12 +194,12 @@ module _ (rest limit : ℕ) {Message : Type 0} (binding : Binding Message) (call
           let same : firstPacket + (p - firstPacket) ≡ p = omega arith in
           gathered-held (ready (l .hand) (v .hand)) p low high ∙ (ap (λ q. wasHeard r n q) same ∙ unheard)
 
-      whole-is : isGathered with-it ≡ isWhole (sent n p ∷ r) n
-      unfolding isWhole
+      whole-is : isGathered with-it ≡ heardWhole (sent n p ∷ r) n
+      unfolding heardWhole
       whole-is = gathered-whole gathered
 
       -- the table is not yet whole: it is held
-      follow-part : isWhole (sent n p ∷ r) n ≡ false → Follows (sent n p) r (heardOf limit l (telegramIn n p))
+      follow-part : heardWhole (sent n p ∷ r) n ≡ false → Follows (sent n p) r (heardOf limit l (telegramIn n p))
       unfolding Follows
       follow-part part =
           rw (heard-part limit l (telegramIn n p) (not-last l (v .shown)) free (whole-is ∙ part), unheard, part) (
@@ -221,11 +221,11 @@ module _ (rest limit : ℕ) {Message : Type 0} (binding : Binding Message) (call
               go (m ∷ before) e = whole-below m n r after (newest-whole r m before e)
 
       -- the table is whole: it is taken
-      module _ (whole : isWhole (sent n p ∷ r) n ≡ true) (twenty : length (T n) ≡ slots) (apart : clashes (T n) ≡ false) where
+      module _ (whole : heardWhole (sent n p ∷ r) n ≡ true) (twenty : length (T n) ≡ slotCount) (apart : clashes (T n) ≡ false) where
         table-is : with-it .slots ≡ T n
         table-is = gathered-table gathered twenty (whole-is ∙ whole)
 
-        answer-is : toldOfTable l with-it ≡ takenAs (n % steps) (countOf (T n)) (distance rest limit binding calls (wholes r) n)
+        answer-is : toldOfTable l with-it ≡ takenAs (n % steps) (countOf (T n)) (trueGap rest limit binding calls (wholes r) n)
         answer-is = rw (gathered .own-step, table-is, gap-is l (v .shown)) refl
 
         shown-taken : Shown (n ∷ wholes r) (takenBy limit l with-it)
@@ -251,19 +251,19 @@ module _ (rest limit : ℕ) {Message : Type 0} (binding : Binding Message) (call
   -- ---- any telegram
 
   -- no table heard whole is later than the newest of them
-  newest-is : (r : List (Item Message)) → Premises rest limit binding calls r → (n : ℕ) → isWhole r n ≡ true → (m : ℕ) × (before : List ℕ) × (wholes r ≡ m ∷ before) × (n ≤ m)
+  newest-is : (r : List (Item Message)) → Premises rest limit binding calls r → (n : ℕ) → heardWhole r n ≡ true → (m : ℕ) × (before : List ℕ) × (wholes r ≡ m ∷ before) × (n ≤ m)
   newest-is r nothing n w = absurd (clash w (nothing-whole Message n))
   newest-is r (next {earlier} k p h s after bound) n w =
-      on (isWhole earlier k)
+      on (heardWhole earlier k)
       (λ old. given (newest-is earlier h n (whole-old k p earlier n old w)) (λ (m, before, is, le). (m, before, wholes-old k p earlier old ∙ is, le)))
       (λ part.
-      on (isWhole (sent k p ∷ earlier) k)
+      on (heardWhole (sent k p ∷ earlier) k)
       (λ new. (k, wholes earlier, wholes-new k p earlier new part, whole-below n k (sent k p ∷ earlier) (omega arith, after) w))
       (λ still.
       given (newest-is earlier h n (whole-other k p earlier n (λ same. whole-apart (sent k p ∷ earlier) n k w still same) w))
       (λ (m, before, is, le). (m, before, wholes-part k p earlier still ∙ is, le))))
   newest-is r (late {earlier} k p first h s newest) n w =
-      let old : isWhole earlier k ≡ true = newest-whole earlier k first newest in
+      let old : heardWhole earlier k ≡ true = newest-whole earlier k first newest in
       given (newest-is earlier h n (whole-old k p earlier n old w)) (λ (m, before, is, le). (m, before, wholes-old k p earlier old ∙ is, le))
   newest-is r (damaged {earlier} other number h e) n w =
       given (newest-is earlier h n (sym (whole-spoilt other earlier n) ∙ w)) (λ (m, before, is, le). (m, before, wholes-spoilt other earlier ∙ is, le))
@@ -282,10 +282,10 @@ module _ (rest limit : ℕ) {Message : Type 0} (binding : Binding Message) (call
   unfolding wholes
   falling r nothing = tt
   falling r (next {earlier} n p h s after bound) =
-      on (isWhole earlier n)
+      on (heardWhole earlier n)
       (λ old. subst Falling (sym (wholes-old n p earlier old)) (falling earlier h))
       (λ part.
-      on (isWhole (sent n p ∷ earlier) n)
+      on (heardWhole (sent n p ∷ earlier) n)
       (λ new.
       subst Falling (sym (wholes-new n p earlier new part))
       (falling-more n (wholes earlier) (s .0) (λ m before e. newest-near n p earlier part after bound (s .1) (s .2) m before e .0) (falling earlier h)))
@@ -301,9 +301,9 @@ module _ (rest limit : ℕ) {Message : Type 0} (binding : Binding Message) (call
       (gathered-as (got (spoilt other ∷ r) m) (λ k small. heard-spoilt other r m (firstPacket + k)) g)
 
   -- ---- the theorem, of tables of twenty slots whose numbers do not clash, and whose packets are read as they were sent
-  module _ (twenty : (n : ℕ) → length (T n) ≡ slots) (apart : (n : ℕ) → clashes (T n) ≡ false)
-      (back : (n p : ℕ) → Sent rest limit binding calls n p → binding .read (message rest limit binding calls (sent n p)) ≡ record { verdict = Accepted; telegram = telegramIn n p }) where
-    heard-as : (l : Listener) (n p : ℕ) → Sent rest limit binding calls n p → hearOf limit l (binding .read (message rest limit binding calls (sent n p))) ≡ heardOf limit l (telegramIn n p)
+  module _ (twenty : (n : ℕ) → length (T n) ≡ slotCount) (apart : (n : ℕ) → clashes (T n) ≡ false)
+      (back : (n p : ℕ) → Sent rest limit binding calls n p → binding .read (messageOf rest limit binding calls (sent n p)) ≡ record { verdict = Accepted; telegram = telegramIn n p }) where
+    heard-as : (l : Listener) (n p : ℕ) → Sent rest limit binding calls n p → hearOf limit l (binding .read (messageOf rest limit binding calls (sent n p))) ≡ heardOf limit l (telegramIn n p)
     heard-as l n p s = ap (hearOf limit l) (back n p s) ∙ hear-as limit l (record { verdict = Accepted; telegram = telegramIn n p }) refl
 
     follow-late : (l : Listener) (n p : ℕ) (r : List (Item Message)) (before : List ℕ) → Sent rest limit binding calls n p → wholes r ≡ n ∷ before → Rel r l
@@ -313,7 +313,7 @@ module _ (rest limit : ℕ) {Message : Type 0} (binding : Binding Message) (call
     follow-next : (l : Listener) (n p : ℕ) (r : List (Item Message)) → Premises rest limit binding calls r → Sent rest limit binding calls n p → NoneAfter n r
         → Near n r → Rel r l → Follows (sent n p) r (heardOf limit l (telegramIn n p))
     follow-next l n p r h s after bound v =
-        on (isWhole r n)
+        on (heardWhole r n)
         (λ w.
         given (newest-is r h n w)
         (λ (m, before, is, le).
@@ -323,7 +323,7 @@ module _ (rest limit : ℕ) {Message : Type 0} (binding : Binding Message) (call
         on (wasHeard r n p)
         (λ heard. follow-copy n p r u after bound (s .1) (s .2) heard l v)
         (λ unheard.
-        on (isWhole (sent n p ∷ r) n)
+        on (heardWhole (sent n p ∷ r) n)
         (λ whole. follow-whole n p r u after bound (s .1) (s .2) l v unheard whole (twenty n) (apart n))
         (λ part. follow-part n p r u after bound (s .1) (s .2) l v unheard part)))
 

@@ -14,7 +14,7 @@ use Rattle.condition.specs.declared.slots.Slot.{Slot}
 use Rattle.telegram.specs.Telegrams.{readOf, writeVerdict, written}
 use Rattle.telegram.specs.declared.Reading.{Reading}
 use Rattle.telegram.specs.declared.Telegram.{Telegram}
-use Rattle.desk.specs.Desks.{rest, freshDesk, acceptOf, tableOf, telegramOf}
+use Rattle.desk.specs.Desks.{baseRest, freshDesk, acceptOf, tableOf, packetOf}
 use Rattle.desk.specs.declared.Answer.{Answer}
 use Rattle.desk.specs.declared.Desk.{Desk}
 use Rattle.listener.specs.Listeners.{carries, freshListener, hearOf}
@@ -50,9 +50,9 @@ fresh-desk-says Such = (
   λ plain κs _ desk lasts p. subst⁻¹ Such p plain,
 )
 
-pub accept-says : (Such : Desk → List ℕ → Answer → Type 0) → OfAccept Such ↔ ((desk : Desk) (list : List ℕ) → Such desk list (acceptOf rest desk list))
+pub accept-says : (Such : Desk → List ℕ → Answer → Type 0) → OfAccept Such ↔ ((desk : Desk) (list : List ℕ) → Such desk list (acceptOf baseRest desk list))
 accept-says Such = (
-  λ promised desk list. promised ([], tt) (desk, (lent list, tt)) (acceptOf rest desk list) (tt, (tt, tt)) refl,
+  λ promised desk list. promised ([], tt) (desk, (lent list, tt)) (acceptOf baseRest desk list) (tt, (tt, tt)) refl,
   λ plain κs (desk, (list, _)) answer lasts p. subst⁻¹ (Such desk (list .now)) p (plain desk (list .now)),
 )
 
@@ -84,13 +84,13 @@ write-telegram-says Such = (
 )
 
 pub write-says : (Such : Desk → ℕ → List ℕ → Verdict → List ℕ → Type 0)
-    → OfWrite Such ↔ ((desk : Desk) (packet : ℕ) (buffer : List ℕ) → Such desk packet buffer (writeVerdict (telegramOf desk packet) buffer) (written (telegramOf desk packet) buffer))
+    → OfWrite Such ↔ ((desk : Desk) (packet : ℕ) (buffer : List ℕ) → Such desk packet buffer (writeVerdict (packetOf desk packet) buffer) (written (packetOf desk packet) buffer))
 write-says Such = (
   λ promised desk packet buffer.
-      promised ([], tt) (desk, (packet, (lent buffer, tt))) (writeVerdict (telegramOf desk packet) buffer) (tt, (tt, (written (telegramOf desk packet) buffer, tt))) (refl, refl),
+      promised ([], tt) (desk, (packet, (lent buffer, tt))) (writeVerdict (packetOf desk packet) buffer) (tt, (tt, (written (packetOf desk packet) buffer, tt))) (refl, refl),
   λ plain κs (desk, (packet, (buffer, _))) verdict (_, (_, (after, _))) p.
       subst⁻¹ (λ v. Such desk packet (buffer .now) v after) (p .0)
-      (subst⁻¹ (Such desk packet (buffer .now) (writeVerdict (telegramOf desk packet) (buffer .now))) (p .1) (plain desk packet (buffer .now))),
+      (subst⁻¹ (Such desk packet (buffer .now) (writeVerdict (packetOf desk packet) (buffer .now))) (p .1) (plain desk packet (buffer .now))),
 )
 
 -- ---- where an answer is an enum: of each answer that the contract's equation allows

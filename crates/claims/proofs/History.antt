@@ -11,7 +11,7 @@ use native.Mathlib.Omega.{arith}
 use native.Mathlib.Nat.{add-zero}
 use borrow.Author.Tests.{eqb-true, eqb-false, ne-eqb, ltb-true, ltb-false, lt-ltb, le-ltb}
 use Rattle.kit.proofs.Cases.{on, given}
-use Rattle.condition.specs.Slots.{isOccupied, kindOf, slots}
+use Rattle.condition.specs.Slots.{isOccupied, kindOf, slotCount}
 use Rattle.wire.specs.Steps.{steps}
 use Rattle.wire.specs.Verdicts.{numberOf}
 use Rattle.wire.specs.declared.verdicts.Verdict.the-variants.{Accepted as Passed}
@@ -20,7 +20,7 @@ use Rattle.telegram.specs.Tables.{tableSlot}
 use Rattle.places.specs.Places.{placeAt}
 use Rattle.orders.specs.Orders.{listRefusal}
 use Rattle.desk.specs.Desks.{acceptOf}
-use Rattle.desk.specs.Runs.{run, Accepted, Stood, InNewest}
+use Rattle.desk.specs.Runs.{deskRun, AllAccepted, Stood, InNewest}
 use Rattle.desk.specs.Steps.{stepOf}
 use Rattle.desk.specs.declared.Desk.{Desk}
 use Rattle.desk.proofs.Making.{accepts, refuses}
@@ -67,13 +67,13 @@ module _ (rest : ℕ) where
   one-call calls list yes′ no′ = on (eqb (refusal calls list) 0) (λ e. yes′ (eqb-true (refusal calls list) 0 e)) (λ e. no′ (eqb-false (refusal calls list) 0 e))
 
   -- the calls make a run of accepted lists
-  pub desk-run : (calls : List (List ℕ)) → (deskAfter rest calls ≡ run rest rest (accepted rest calls)) × Accepted rest rest (accepted rest calls)
+  pub desk-run : (calls : List (List ℕ)) → (deskAfter rest calls ≡ deskRun rest rest (accepted rest calls)) × AllAccepted rest rest (accepted rest calls)
   unfolding deskAfter accepted
   desk-run [] = (sym (run-none rest rest), tt)
   desk-run (list ∷ calls) = go (desk-run calls)
     where
-      go : (deskAfter rest calls ≡ run rest rest (accepted rest calls)) × Accepted rest rest (accepted rest calls)
-          → (deskAfter rest (list ∷ calls) ≡ run rest rest (accepted rest (list ∷ calls))) × Accepted rest rest (accepted rest (list ∷ calls))
+      go : (deskAfter rest calls ≡ deskRun rest rest (accepted rest calls)) × AllAccepted rest rest (accepted rest calls)
+          → (deskAfter rest (list ∷ calls) ≡ deskRun rest rest (accepted rest (list ∷ calls))) × AllAccepted rest rest (accepted rest (list ∷ calls))
       go (same, good) =
           one-call calls list
           (λ e.
@@ -181,10 +181,10 @@ module _ (rest : ℕ) where
 
   -- ---- the tables of a run, the rest being 11 or less
   module _ (few : rest ≤ 11) (calls : List (List ℕ)) where
-    desk-is : (n : ℕ) → deskOf rest calls n ≡ run rest rest (history calls n)
+    desk-is : (n : ℕ) → deskOf rest calls n ≡ deskRun rest rest (history calls n)
     desk-is n = desk-run (upTo rest calls n) .0
 
-    good : (n : ℕ) → Accepted rest rest (history calls n)
+    good : (n : ℕ) → AllAccepted rest rest (history calls n)
     good n = desk-run (upTo rest calls n) .1
 
     pub sound : (n : ℕ) → Sound rest (deskOf rest calls n)
@@ -195,7 +195,7 @@ module _ (rest : ℕ) where
     step-is n made =
         ap (λ (desk : Desk). desk .step) (desk-is n) ∙ (run-step rest rest (omega arith) few (history calls n) ∙ ap (λ k. k % steps) (made-up-to calls n made))
 
-    pub table-twenty : (n : ℕ) → length (tableIn rest calls n) ≡ slots
+    pub table-twenty : (n : ℕ) → length (tableIn rest calls n) ≡ slotCount
     table-twenty n = table-long (sound n)
 
     pub table-apart : (n : ℕ) → clashes (tableIn rest calls n) ≡ false
@@ -223,10 +223,10 @@ module _ (rest : ℕ) where
       between = span calls m (n - m) (omega arith)
 
       abbrev then : Desk
-      then = run rest rest (history calls m)
+      then = deskRun rest rest (history calls m)
 
       abbrev now : Desk
-      now = run rest rest (between .lists ++ history calls m)
+      now = deskRun rest rest (between .lists ++ history calls m)
 
       joined : history calls n ≡ between .lists ++ history calls m
       joined =
@@ -234,10 +234,10 @@ module _ (rest : ℕ) where
           sym (ap (history calls) e) ∙ between .joins
 
       now-is : deskOf rest calls n ≡ now
-      now-is = desk-is n ∙ ap (run rest rest) joined
+      now-is = desk-is n ∙ ap (deskRun rest rest) joined
 
-      all-good : Accepted rest rest (between .lists ++ history calls m)
-      all-good = subst (Accepted rest rest) joined (good n)
+      all-good : AllAccepted rest rest (between .lists ++ history calls m)
+      all-good = subst (AllAccepted rest rest) joined (good n)
 
       slot-then : (j : ℕ) → tableSlot (tableIn rest calls m) j ≡ at then j .slot
       slot-then j = table-at (deskOf rest calls m) j ∙ ap (λ (desk : Desk). at desk j .slot) (desk-is m)

@@ -17,8 +17,8 @@ use Rattle.places.specs.declared.Place.{Place}
 use Rattle.orders.specs.Orders.{listRefusal}
 use Rattle.orders.proofs.Lists.{Fair, fair, listed-self}
 use Rattle.resting.specs.Rests.{isResting}
-use Rattle.desk.specs.Desks.{rest as eight, freshWith}
-use Rattle.desk.specs.Runs.{run, Accepted, InNewest, EndedAgo, OneNew}
+use Rattle.desk.specs.Desks.{baseRest as eight, freshWith}
+use Rattle.desk.specs.Runs.{deskRun, AllAccepted, InNewest, EndedAgo, OneNew}
 use Rattle.desk.specs.Steps.{nextStep, stepOf}
 use Rattle.desk.specs.declared.Desk.{Desk}
 use Rattle.desk.proofs.Promises as promises
@@ -46,9 +46,9 @@ pub record Ending (lists : List (List ℕ)) (number ago : ℕ) : Type 0 where
   pub i : ℕ
   pub joins : lists ≡ between ++ (ending ∷ older)
   pub many : length between ≡ ago
-  pub live : 1 ≤ placeAt (run eight eight older .places) i .order
-  pub had : numberIn (run eight eight older) i ≡ number
-  pub absent : stands ending (placeAt (run eight eight older .places) i .order) ≡ false
+  pub live : 1 ≤ placeAt (deskRun eight eight older .places) i .order
+  pub had : numberIn (deskRun eight eight older) i ≡ number
+  pub absent : stands ending (placeAt (deskRun eight eight older .places) i .order) ≡ false
 
 pub ending-of : (lists : List (List ℕ)) (number ago : ℕ) → EndedAgo eight eight lists number ago → Ending lists number ago
 ending-of [] number ago e = absurd e
@@ -71,9 +71,9 @@ ending-of (list ∷ lists) number (suc ago) e =
 
 -- ---- one step
 
-module _ (lists : List (List ℕ)) (good : Accepted eight eight lists) (list : List ℕ) (unrefused : listRefusal (run eight eight lists .places) list ≡ 0) where
+module _ (lists : List (List ℕ)) (good : AllAccepted eight eight lists) (list : List ℕ) (unrefused : listRefusal (deskRun eight eight lists .places) list ≡ 0) where
   abbrev before : Desk
-  before = run eight eight lists
+  before = deskRun eight eight lists
 
   abbrev after : Desk
   after = stepOf eight before list
@@ -139,7 +139,7 @@ module _ (lists : List (List ℕ)) (good : Accepted eight eight lists) (list : L
       )
     where
       fresh : before ≡ freshWith eight
-      fresh = ap (run eight eight) none ∙ run-none eight eight
+      fresh = ap (deskRun eight eight) none ∙ run-none eight eight
 
       last-zero : before .last ≡ 0
       last-zero = ap (λ (desk : Desk). desk .last) fresh ∙ fresh-says .1
@@ -167,7 +167,7 @@ module _ (lists : List (List ℕ)) (good : Accepted eight eight lists) (list : L
   )
 
   -- P5
-  is-run : after ≡ run eight eight (list ∷ lists)
+  is-run : after ≡ deskRun eight eight (list ∷ lists)
   is-run = sym (run-more eight eight list lists)
 
   passed-over : EndedAgo eight eight lists 1 6 → (i : ℕ) → numberIn after i ≡ 1 → ⊥
@@ -175,8 +175,8 @@ module _ (lists : List (List ℕ)) (good : Accepted eight eight lists) (list : L
       given (ending-of lists 1 6 ended)
       (λ it.
       promises.p5-passed-over (it .older) (it .ending) (it .i) (it .live) (it .had) (it .absent) (it .between) list
-      (subst (λ (l : List (List ℕ)). Accepted eight eight (list ∷ l)) (it .joins) (unrefused, good)) (it .many) i
-      (subst (λ (l : List (List ℕ)). numberIn (run eight eight (list ∷ l)) i ≡ 1) (it .joins) (ap (λ (desk : Desk). numberIn desk i) (sym is-run) ∙ one)))
+      (subst (λ (l : List (List ℕ)). AllAccepted eight eight (list ∷ l)) (it .joins) (unrefused, good)) (it .many) i
+      (subst (λ (l : List (List ℕ)). numberIn (deskRun eight eight (list ∷ l)) i ≡ 1) (it .joins) (ap (λ (desk : Desk). numberIn desk i) (sym is-run) ∙ one)))
 
   gets-one : EndedAgo eight eight lists 1 7 → before .last ≡ 255 → (j : ℕ) → OneNew (before .places) list j → (i : ℕ) × HasSlot after (named j) i × (numberIn after i ≡ 1)
   gets-one ended last j new =
@@ -184,11 +184,11 @@ module _ (lists : List (List ℕ)) (good : Accepted eight eight lists) (list : L
       (λ it.
       given
       (promises.p5-given (it .older) (it .ending) (it .i) (it .live) (it .had) (it .absent) (it .between) list
-      (subst (λ (l : List (List ℕ)). Accepted eight eight (list ∷ l)) (it .joins) (unrefused, good)) (it .many)
-      (subst (λ (l : List (List ℕ)). run eight eight l .last ≡ 255) (it .joins) last) j
-      (subst (λ (l : List (List ℕ)). OneNew (run eight eight l .places) list j) (it .joins) new))
+      (subst (λ (l : List (List ℕ)). AllAccepted eight eight (list ∷ l)) (it .joins) (unrefused, good)) (it .many)
+      (subst (λ (l : List (List ℕ)). deskRun eight eight l .last ≡ 255) (it .joins) last) j
+      (subst (λ (l : List (List ℕ)). OneNew (deskRun eight eight l .places) list j) (it .joins) new))
       (λ (i, order, number).
-      let back : run eight eight (list ∷ (it .between ++ (it .ending ∷ it .older))) ≡ after = ap (λ (l : List (List ℕ)). run eight eight (list ∷ l)) (sym (it .joins)) ∙ sym is-run in
+      let back : deskRun eight eight (list ∷ (it .between ++ (it .ending ∷ it .older))) ≡ after = ap (λ (l : List (List ℕ)). deskRun eight eight (list ∷ l)) (sym (it .joins)) ∙ sym is-run in
       let same : placeAt (after .places) i .order ≡ named j = ap (λ (desk : Desk). placeAt (desk .places) i .order) (sym back) ∙ order in
       let some : 1 ≤ named j = listed .named j (new .inlist) in (
         i,
@@ -197,7 +197,7 @@ module _ (lists : List (List ℕ)) (good : Accepted eight eight lists) (list : L
       )))
 
   rests : (number : ℕ) → 1 ≤ number → (isResting eight (after .step) (after .ended) number ≡ true) ↔ NumberRests (list ∷ lists) number
-  unfolding run
+  unfolding deskRun
   rests number p = resting-exactly eight eight (omega arith) (omega arith) (list ∷ lists) number (unrefused, good) p
 
   -- D-06: a slot that no order has

@@ -6,10 +6,10 @@ use mathlib.Core.Bool.{Bool, true, false, _||_}
 use mathlib.Core.List.{List, [], _∷_}
 use lib.Dec.{eqb}
 use native.Mathlib.Omega.{arith}
-use Rattle.kit.specs.Loops.{count, fold}
+use Rattle.kit.specs.Loops.{howMany, fold}
 use Rattle.telegram.specs.Tables.{packets, firstPacket}
 use Rattle.telegram.specs.declared.Telegram.{Telegram}
-use Rattle.desk.specs.Desks.{telegramOf}
+use Rattle.desk.specs.Desks.{packetOf}
 use Rattle.claims.specs.Calls.{stepsMade, deskOf}
 use Rattle.claims.specs.Hearings.{Item, sent, spoilt, wasHeard, wholes, firstOr, NoneAfter, newestOr, farthest}
 use Rattle.claims.specs.Ends.{Binding, Premises, nothing, next}
@@ -22,7 +22,7 @@ also p packet q = eqb q p || packet q
 
 -- whether five of the packets 3 to 7 are among these
 abbrev five : (ℕ → Bool) → Bool
-five packet = eqb (count (λ k. packet (firstPacket + k)) packets) packets
+five packet = eqb (howMany (λ k. packet (firstPacket + k)) packets) packets
 
 none-after : {Message : Type 0} (n m : ℕ) (r : List (Item Message)) → NoneAfter m r → m ≤ n → NoneAfter n r
 none-after n m [] b h = tt
@@ -40,7 +40,7 @@ module _ (rest limit : ℕ) {Message : Type 0} (binding : Binding Message) (call
 
   module _ {n : ℕ} {whole : List ℕ} {packet : ℕ → Bool} {r : List (Item Message)} (part : Part n whole packet r) (made : n ≤ stepsMade rest calls) (p : ℕ) (low : 3 ≤ p) (high : p ≤ 7) where
     heard-next : Premises rest limit binding calls (sent n p ∷ r)
-    heard-next = next n p (part .premises) (made, low, high, all (telegramOf (deskOf rest calls n) p)) (part .after) (rw (part .same) (part .bound))
+    heard-next = next n p (part .premises) (made, low, high, all (packetOf (deskOf rest calls n) p)) (part .after) (rw (part .same) (part .bound))
 
     known-next : (q : ℕ) → wasHeard (sent n p ∷ r) n q ≡ also p packet q
     known-next q = heard-here n p r q ∙ ap (λ t. eqb q p || t) (part .known q)
@@ -68,7 +68,7 @@ module _ (rest limit : ℕ) {Message : Type 0} (binding : Binding Message) (call
   -- a whole table more
   fifth : (n : ℕ) (whole : List ℕ) (r : List (Item Message)) → n ≤ stepsMade rest calls → Part n whole (λ q. false) r
       → Premises rest limit binding calls (fiveOf n r) × NoneAfter n (fiveOf n r) × (wholes (fiveOf n r) ≡ n ∷ whole)
-  unfolding count fold
+  unfolding howMany fold
   fifth n whole r made part =
       let p3 = part-more part made 3 (omega arith) (omega arith) refl in
       let p4 = part-more p3 made 4 (omega arith) (omega arith) refl in

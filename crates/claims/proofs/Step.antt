@@ -21,8 +21,8 @@ use Rattle.numbers.proofs.Search.{number-none, permitted-only}
 use Rattle.resting.specs.Rests.{isResting}
 use Rattle.resting.specs.declared.Ended.{Ended}
 use Rattle.resting.proofs.Rested.{covers-resting}
-use Rattle.desk.specs.Desks.{rest as eight, acceptOf, Made, called}
-use Rattle.desk.specs.Runs.{run, Accepted, InNewest}
+use Rattle.desk.specs.Desks.{baseRest as eight, acceptOf, Made, called}
+use Rattle.desk.specs.Runs.{deskRun, AllAccepted, InNewest}
 use Rattle.desk.specs.Steps.{stepOf}
 use Rattle.desk.specs.declared.Answer.{Answer}
 use Rattle.desk.specs.declared.Desk.{Desk}
@@ -58,19 +58,19 @@ steps-one : (calls : List (List ℕ)) (desk : Desk) (list : List ℕ) (answer : 
 steps-one calls desk list answer is same accepts-it =
     let history = desk-run eight calls in
     let lists = accepted eight calls in
-    let before : desk ≡ run eight eight lists = same ∙ history .0 in
+    let before : desk ≡ deskRun eight eight lists = same ∙ history .0 in
     let zero-refusal : listRefusal (desk .places) list ≡ 0 = unrefused-when desk list (ap (λ (a : Answer). a .verdict) (sym is) ∙ accepts-it) in
-    let after : answer .desk ≡ stepOf eight (run eight eight lists) list = ap (λ (a : Answer). a .desk) (is ∙ accepts eight desk list zero-refusal) ∙ ap (λ (d : Desk). stepOf eight d list) before in
+    let after : answer .desk ≡ stepOf eight (deskRun eight eight lists) list = ap (λ (a : Answer). a .desk) (is ∙ accepts eight desk list zero-refusal) ∙ ap (λ (d : Desk). stepOf eight d list) before in
     subst (λ (d : Desk). OneStep lists d list (answer .desk)) (sym before)
-    (subst (λ (d : Desk). OneStep lists (run eight eight lists) list d) (sym after)
+    (subst (λ (d : Desk). OneStep lists (deskRun eight eight lists) list d) (sym after)
     (one-step lists (history .1) list (subst (λ (d : Desk). listRefusal (d .places) list ≡ 0) before zero-refusal)))
 
 -- D-12: a number that rests is 1 or more
-rests-positive : (lists : List (List ℕ)) → Accepted eight eight lists → (number : ℕ) → NumberRests lists number → 1 ≤ number
+rests-positive : (lists : List (List ℕ)) → AllAccepted eight eight lists → (number : ℕ) → NumberRests lists number → 1 ≤ number
 rests-positive lists good number (ago, young, e) =
     given (ending-of lists number ago e)
     (λ it.
-    let part = older eight eight (omega arith) (omega arith) (it .between) (it .ending ∷ it .older) (subst (Accepted eight eight) (it .joins) good) in
+    let part = older eight eight (omega arith) (omega arith) (it .between) (it .ending ∷ it .older) (subst (AllAccepted eight eight) (it .joins) good) in
     omega (arith, it .had, run-sound eight eight (omega arith) (omega arith) (it .older) (part .1) .orderly .numbered (it .i) (it .live) .0))
 
 module _ (calls : List (List ℕ)) where
@@ -80,10 +80,10 @@ module _ (calls : List (List ℕ)) where
   abbrev desk : Desk
   desk = deskAfter eight calls
 
-  same : desk ≡ run eight eight lists
+  same : desk ≡ deskRun eight eight lists
   same = desk-run eight calls .0
 
-  good : Accepted eight eight lists
+  good : AllAccepted eight eight lists
   good = desk-run eight calls .1
 
   kept : Made desk
@@ -136,7 +136,7 @@ module _ (calls : List (List ℕ)) where
       history : ℕ → List (List ℕ)
       history n = accepted eight (upTo eight calls n)
 
-      desk-is : (n : ℕ) → deskOf eight calls n ≡ run eight eight (history n)
+      desk-is : (n : ℕ) → deskOf eight calls n ≡ deskRun eight eight (history n)
       desk-is n = desk-run eight (upTo eight calls n) .0
 
       go : (list : List ℕ) × (history (suc n) ≡ list ∷ history n) → Span eight calls (n + 1) (m - (n + 1)) → ⊥
@@ -144,12 +144,12 @@ module _ (calls : List (List ℕ)) where
           let upward : n + 1 + (m - (n + 1)) ≡ m = omega arith in
           let first : history (n + 1) ≡ list ∷ history n = ap history (omega arith) ∙ next in
           let joins : history m ≡ s .lists ++ (list ∷ history n) = ap history (sym upward) ∙ (s .joins ∙ ap (λ (l : List (List ℕ)). s .lists ++ l) first) in
-          let named : placeAt (run eight eight (history n) .places) i .order ≡ order = ap (λ (d : Desk). placeAt (d .places) i .order) (sym (desk-is n)) ∙ is in
-          promises.eight-tables (s .lists) (history n) list i k (subst (Accepted eight eight) joins (desk-run eight (upTo eight calls m) .1)) (omega (arith, s .many)) (omega arith)
+          let named : placeAt (deskRun eight eight (history n) .places) i .order ≡ order = ap (λ (d : Desk). placeAt (d .places) i .order) (sym (desk-is n)) ∙ is in
+          promises.eight-tables (s .lists) (history n) list i k (subst (AllAccepted eight eight) joins (desk-run eight (upTo eight calls m) .1)) (omega (arith, s .many)) (omega arith)
           (on (stands list order)
           (λ e. absurd (gone (subst (λ (l : List (List ℕ)). InNewest order l) (sym first) e)))
           (λ e. subst (λ o. stands list o ≡ false) (sym named) e))
-          (ap (λ (l : List (List ℕ)). numberIn (run eight eight l) k) (sym joins)
+          (ap (λ (l : List (List ℕ)). numberIn (deskRun eight eight l) k) (sym joins)
           ∙ (ap (λ (d : Desk). numberIn d k) (sym (desk-is m)) ∙ (number ∙ ap (λ (d : Desk). numberIn d i) (desk-is n))))
 
 -- D-17: after an empty list each slot is free

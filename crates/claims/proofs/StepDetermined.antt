@@ -10,13 +10,13 @@ use lib.Dec.{eqb, ltb}
 use native.Mathlib.Omega.{arith}
 use borrow.Author.Tests.{eqb-true, eqb-false, ltb-true, ltb-false}
 use Rattle.kit.proofs.Cases.{on, clash, given}
-use Rattle.condition.specs.Slots.{slots, codedOf, settled}
+use Rattle.condition.specs.Slots.{slotCount, codedOf, settled}
 use Rattle.order_list.specs.Lists.{orderAt, orderCount}
 use Rattle.places.specs.Places.{placeAt, isLive}
 use Rattle.places.specs.declared.Place.{Place}
 use Rattle.resting.specs.Rests.{isResting}
 use Rattle.wire.specs.Steps.{steps}
-use Rattle.desk.specs.Desks.{rest as eight}
+use Rattle.desk.specs.Desks.{baseRest as eight}
 use Rattle.desk.specs.declared.Desk.{Desk}
 use Rattle.claims.specs.Step.{HasSlot, Live, numberIn, Present, IsNew, TakenAtTurn, LastGiven, earlier, passing, giving, Between, NewOrder, OneStep, Alike}
 use Rattle.claims.proofs.Arriving.{live-test, test-live}
@@ -181,9 +181,9 @@ filled desk i =
     on (eqb (placeAt (desk .places) i .order) 0)
     (λ e. inr (λ order (some, small, same). omega (arith, eqb-true (placeAt (desk .places) i .order) 0 e)))
     (λ e.
-    on (ltb i slots)
-    (λ f. inl (omega (arith, eqb-false (placeAt (desk .places) i .order) 0 e), ltb-true i slots f, refl))
-    (λ f. inr (λ order (some, small, same). omega (arith, ltb-false i slots f))))
+    on (ltb i slotCount)
+    (λ f. inl (omega (arith, eqb-false (placeAt (desk .places) i .order) 0 e), ltb-true i slotCount f, refl))
+    (λ f. inr (λ order (some, small, same). omega (arith, ltb-false i slotCount f))))
 
 -- two tests that are true when the same is
 same-test : {P : Type 0} (a b : Bool) → (a ≡ true) ↔ P → (b ≡ true) ↔ P → a ≡ b

@@ -17,7 +17,7 @@ use Rattle.signals.specs.Answers.{acceptance, absence, refusalUnder, notedOf}
 use Rattle.signals.specs.Signals.{missedBy}
 use Rattle.kit.specs.Asserted as Asserted
 use Rattle.kit.specs.Contracts.{OneAnswer}
-use Rattle.kit.specs.Ladder.{Decides, Silent}
+use Rattle.kit.specs.Ladder.{Decides, NoneHolds}
 use Rattle.wire.specs.declared.verdicts.Verdict.the-variants.{Refused}
 use Rattle.telegram.specs.Telegrams.{readRows, writeRows}
 use Rattle.orders.specs.Orders.{listRows}
@@ -67,7 +67,7 @@ pub record TrainTelegrams : Type 0 where
   -- M-1d, R-10, R-16, R-17, R-22: a telegram is refused under the number of document 01
   pub refused : OfUpdate (λ signals present telegram updated. present ≡ true → RefusedBy (trainRows telegram) refusalUnder (notedOf (updated .answer)))
   -- R-23, C-08: and it is accepted when no row holds, and never else, so that no reader may miss a good one
-  pub accepted : OfUpdate (λ signals present telegram updated. present ≡ true → (notedOf (updated .answer) ≡ acceptance) ↔ Silent (trainRows telegram))
+  pub accepted : OfUpdate (λ signals present telegram updated. present ≡ true → (notedOf (updated .answer) ≡ acceptance) ↔ NoneHolds (trainRows telegram))
   -- S-13, S-14: a call with none is a miss, and is not refused
   pub absent : OfUpdate (λ signals present telegram updated. present ≡ false → (notedOf (updated .answer) ≡ absence) × (updated .signals ≡ missedBy signals))
   -- M-1f, S-13, S-20, R-24: a refused one is a miss, and changes nothing else
@@ -75,9 +75,9 @@ pub record TrainTelegrams : Type 0 where
 
 -- S-01: the same where the record is: `signals_in_place::update(held, present, telegram)`
 pub record TrainTelegramsLent : Type 2 where
-  pub defined : Asserted.OneAnswer update-lent.ended (λ M 𝓤. update-lent.clauses 𝓤)
+  pub defined : Asserted.OneAnswerLent update-lent.ended (λ M 𝓤. update-lent.clauses 𝓤)
   pub refused : OfUpdateLent (λ signals present telegram answer after. present ≡ true → RefusedBy (trainRows telegram) refusalUnder (notedOf answer))
-  pub accepted : OfUpdateLent (λ signals present telegram answer after. present ≡ true → (notedOf answer ≡ acceptance) ↔ Silent (trainRows telegram))
+  pub accepted : OfUpdateLent (λ signals present telegram answer after. present ≡ true → (notedOf answer ≡ acceptance) ↔ NoneHolds (trainRows telegram))
   pub absent : OfUpdateLent (λ signals present telegram answer after. present ≡ false → (notedOf answer ≡ absence) × (after ≡ missedBy signals))
   pub missed : OfUpdateLent (λ signals present telegram answer after. (number : ℕ) → notedOf answer ≡ refusalUnder number → after ≡ missedBy signals)
 

@@ -16,13 +16,13 @@ use lib.ListN.{length, getD}
 use Rattle.kit.specs.Bytes.{Bytes}
 use Rattle.wire.specs.Distances.{InRange, distanceWord}
 use Rattle.wire.specs.declared.verdicts.Verdict.the-variants.{Accepted}
-use Rattle.condition.specs.Slots.{Held, codedOf, settled}
+use Rattle.condition.specs.Slots.{MayHold, codedOf, settled}
 use Rattle.condition.specs.declared.slots.Coded.{Coded}
 use Rattle.telegram.specs.Sendable.{slotOn, isIdle}
 use Rattle.telegram.specs.Tables.{tableSlot}
 use Rattle.telegram.specs.Telegrams.{packetIn, stepIn, codedAt}
 use Rattle.telegram.specs.declared.Telegram.{Telegram}
-use Rattle.desk.specs.Desks.{Made, telegramOf}
+use Rattle.desk.specs.Desks.{Made, packetOf}
 use Rattle.listener.specs.Listeners.{carries, heardAll}
 use Rattle.train_telegram.specs.Readings.{Shows}
 use Rattle.train_telegram.specs.States.{silent}
@@ -44,7 +44,7 @@ pub record Codes (taken : Coded → Coded) (bytes : List ℕ) (t : Telegram) : T
 
 pub record AsDocument01Says : Type 2 where
   -- M-2a: what a desk writes codes its telegram
-  pub written : OfWrite (λ desk packet buffer verdict after. Made desk → verdict ≡ Accepted → Codes (λ c. c) after (telegramOf desk packet))
+  pub written : OfWrite (λ desk packet buffer verdict after. Made desk → verdict ≡ Accepted → Codes (λ c. c) after (packetOf desk packet))
   -- M-2b: what is read from bytes is the telegram that they code, a second word that is not considered taken as zero (K-11)
   pub read : OfRead (λ bytes reading. reading .verdict ≡ Accepted → Codes settled bytes (reading .telegram))
   -- K-06, K-07: a word of 16 bits is metres from -32,767 to 32,767 or no value, and each of these is one word
@@ -58,9 +58,9 @@ pub record AsDocument01Says : Type 2 where
 pub record ReadBack : Type 0 where
   -- M-2d: what a desk wrote is read as it was, in each of the five packets
   pub packets : OfWrite (λ desk packet buffer verdict after. Made desk → verdict ≡ Accepted
-      → OfRead (λ bytes reading. bytes ≡ after → reading ≡ record { verdict = Accepted; telegram = telegramOf desk packet }))
+      → OfRead (λ bytes reading. bytes ≡ after → reading ≡ record { verdict = Accepted; telegram = packetOf desk packet }))
   -- T-04: and they carry the table: slot i is place i % 4 of packet 3 + i / 4
-  pub table : OfTable (λ desk table. (i : ℕ) → i < 20 → slotOn (telegramOf desk (3 + i / 4)) (i % 4) ≡ tableSlot table i)
+  pub table : OfTable (λ desk table. (i : ℕ) → i < 20 → slotOn (packetOf desk (3 + i / 4)) (i % 4) ≡ tableSlot table i)
   -- K-12: what was read and is written again has the same bytes, but for those of a second word that is not considered, which are zero
   pub again : OfRead (λ bytes reading. Bytes bytes → reading .verdict ≡ Accepted
       → OfWriteTelegram (λ telegram buffer verdict after. telegram ≡ reading .telegram → length buffer ≡ 26
@@ -82,9 +82,9 @@ pub record TheSignalReader : Type 2 where
 
 pub record Valid : Type 0 where
   -- M-2e: whatever the bytes, a slot that is read has a type, a country, a voltage and a limit of the table of conditions
-  pub read : OfRead (λ bytes reading. (k : ℕ) → Held (slotOn (reading .telegram) k))
+  pub read : OfRead (λ bytes reading. (k : ℕ) → MayHold (slotOn (reading .telegram) k))
   -- M-2e: and so has each slot of the picture, whatever was heard
-  pub picture : (telegrams : List (List ℕ)) (i : ℕ) → Held (tableSlot (heardAll carries telegrams .picture) i)
+  pub picture : (telegrams : List (List ℕ)) (i : ℕ) → MayHold (tableSlot (heardAll carries telegrams .picture) i)
   -- M-2e, S-12: whatever the calls were, the signals are silent, or each has the state whose code the last accepted telegram has for it
   pub signals : (calls : List Call) → (recordAfter calls .states ≡ silent) ⊎ ((t : List ℕ) × LastAccepted calls t × Shows (recordAfter calls .states) t)
 

@@ -18,12 +18,12 @@ use mathlib.Core.List.{List, _∷_}
 use lib.ListN.{length}
 use Rattle.wire.specs.declared.verdicts.Verdict.the-variants.{Accepted}
 use Rattle.telegram.specs.Telegrams.{bytesOf, readOf}
-use Rattle.desk.specs.Desks.{rest as eight, freshWith, acceptOf, telegramOf, Made}
+use Rattle.desk.specs.Desks.{baseRest as eight, freshWith, acceptOf, packetOf, Made}
 use Rattle.listener.specs.Answers.{hearingOf}
 use Rattle.listener.specs.Listeners.{carries, freshListener, hearOf, markAt}
 use Rattle.listener.specs.declared.Listener.{Listener}
 use Rattle.claims.specs.Calls.{deskAfter, stepsMade}
-use Rattle.claims.specs.Ends.{Binding, listenerAfter, Premises, pictureOf, lastOf, Carried, PutRight, Answered}
+use Rattle.claims.specs.Ends.{Binding, listenerAfter, Premises, pictureOf, lastOf, IsCarriedOn, PutRight, Answered}
 use Rattle.claims.specs.Functions.{OfFreshDesk, OfAccept, OfWrite, OfFreshListener, OfHear}
 use Rattle.claims.specs.Hearings.{Item, wholes}
 use Rattle.claims.specs.Regular.{wholly, Spaced}
@@ -69,7 +69,7 @@ module _ (calls : List (List ℕ)) (heard : List (Item (List ℕ))) where
   -- the table of n, n is at most m + 8, and that condition's order stood in the accepted list of every step from m to n, both among
   -- them; no order stood in that of step 0. After the first table heard whole, and before it, no mark is set.
   abbrev pub MarkedExactly : Type 0
-  MarkedExactly = (i : ℕ) → (markAt (vehicle .marks) i ≡ true) ↔ Carried eight carries fleetBinding calls (wholes heard) i
+  MarkedExactly = (i : ℕ) → (markAt (vehicle .marks) i ≡ true) ↔ IsCarriedOn eight carries fleetBinding calls (wholes heard) i
 
   -- ---- "However long the loss within that bound, the next whole table puts the vehicle right."
 
@@ -100,7 +100,7 @@ pub record TheFunctions : Type 0 where
   -- R-26: what `accept` requires of a desk is so of the desk of any calls
   pub made : (calls : List (List ℕ)) → Made (deskAfter eight calls)
   -- M-2a: what the buffer held before does not matter: an accepted call leaves the bytes of the telegram, and these alone
-  pub writes : OfWrite (λ desk packet buffer verdict after. verdict ≡ Accepted → after ≡ fleetBinding .write (telegramOf desk packet))
+  pub writes : OfWrite (λ desk packet buffer verdict after. verdict ≡ Accepted → after ≡ fleetBinding .write (packetOf desk packet))
   -- R-09, R-10: each of the five packets is accepted into a buffer of 26 bytes
   pub writes-five : OfWrite (λ desk packet buffer verdict after. 3 ≤ packet → packet ≤ 7 → length buffer ≡ 26 → verdict ≡ Accepted)
   pub fresh-listener : OfFreshListener (λ listener. listener ≡ freshListener)

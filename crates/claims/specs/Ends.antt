@@ -11,14 +11,14 @@ use mathlib.Core.Logic.{_↔_}
 use mathlib.Core.Bool.{true, cond}
 use mathlib.Core.List.{List, [], _∷_}
 use lib.ListN.{replicate}
-use Rattle.condition.specs.Slots.{emptySlot, slots}
+use Rattle.condition.specs.Slots.{emptySlot, slotCount}
 use Rattle.wire.specs.Steps.{steps}
 use Rattle.wire.specs.Verdicts.{numberOf}
 use Rattle.condition.specs.declared.slots.Slot.{Slot}
 use Rattle.wire.specs.declared.verdicts.Verdict.the-variants.{Refused}
 use Rattle.telegram.specs.declared.Reading.{Reading}
 use Rattle.telegram.specs.declared.Telegram.{Telegram}
-use Rattle.desk.specs.Desks.{telegramOf}
+use Rattle.desk.specs.Desks.{packetOf}
 use Rattle.picture.specs.Pictures.{countOf}
 use Rattle.listener.specs.Listeners.{freshListener, hearOf, markAt}
 use Rattle.listener.specs.Answers.{Told, refusedAs, asRepeat, asHeld, takenAs}
@@ -26,7 +26,7 @@ use Rattle.last_step.specs.declared.Last.{Last}
 use Rattle.last_step.specs.declared.Last.the-variants.{Never, Step}
 use Rattle.listener.specs.declared.Listener.{Listener}
 use Rattle.claims.specs.Calls.{stepsMade, deskOf, tableIn, orderIn, StoodFrom}
-use Rattle.claims.specs.Hearings.{Item, sent, spoilt, wasHeard, isWhole, wholes, NoneAfter, Near}
+use Rattle.claims.specs.Hearings.{Item, sent, spoilt, wasHeard, heardWhole, wholes, NoneAfter, Near}
 
 -- M-2: a binding: how a telegram is written as a message and read from it, and which telegrams it can carry
 pub record Binding (Message : Type 0) : Type 1 where
@@ -39,25 +39,25 @@ module _ (rest limit : ℕ) {Message : Type 0} (binding : Binding Message) (call
   -- ---- "Start both ends fresh."
 
   -- D-04, W-03: what is heard as packet p of step n is what the desk of that step wrote
-  abbrev pub message : Item Message → Message
-  message (sent n p) = binding .write (telegramOf (deskOf rest calls n) p)
-  message (spoilt other) = other
+  abbrev pub messageOf : Item Message → Message
+  messageOf (sent n p) = binding .write (packetOf (deskOf rest calls n) p)
+  messageOf (spoilt other) = other
 
   -- A-20, M-1b: the listener after what was heard, the newest first
   unfoldable pub listenerAfter : List (Item Message) → Listener
   listenerAfter [] = freshListener
-  listenerAfter (item ∷ earlier) = hearOf limit (listenerAfter earlier) (binding .read (message item)) .listener
+  listenerAfter (item ∷ earlier) = hearOf limit (listenerAfter earlier) (binding .read (messageOf item)) .listener
 
   -- M-1b: and what it answers to one telegram more
   abbrev pub answerTo : Item Message → List (Item Message) → Told
-  answerTo item earlier = hearOf limit (listenerAfter earlier) (binding .read (message item)) .told
+  answerTo item earlier = hearOf limit (listenerAfter earlier) (binding .read (messageOf item)) .told
 
   -- ---- "Let telegrams be lost or repeated, step order kept, each one heard coming at most 8,191 steps after the last table heard
   -- whole (before any, after the first telegram heard)."
 
   -- D-02, T-01: what can be heard: one of the five packets of a step that the desk has made
   abbrev pub Sent : ℕ → ℕ → Type 0
-  Sent n p = (n ≤ stepsMade rest calls) × (3 ≤ p) × (p ≤ 7) × binding .Carries (telegramOf (deskOf rest calls n) p)
+  Sent n p = (n ≤ stepsMade rest calls) × (3 ≤ p) × (p ≤ 7) × binding .Carries (packetOf (deskOf rest calls n) p)
 
   -- A-24: that a sequence was heard so. Nothing asks that a telegram be heard at all, and none is forbidden to come again. `late` and
   -- `damaged` allow more than the user does: repeats of the last whole table at any later time, and anywhere what the reader refuses.
@@ -73,7 +73,7 @@ module _ (rest limit : ℕ) {Message : Type 0} (binding : Binding Message) (call
 
   -- M-3a, M-3b: the picture when these steps were heard whole, the newest first; A-20: before any, the fresh one
   abbrev pub pictureOf : List ℕ → List Slot
-  pictureOf [] = replicate slots emptySlot
+  pictureOf [] = replicate slotCount emptySlot
   pictureOf (n ∷ before) = tableIn rest calls n
 
   -- L-04: and the step last taken
@@ -85,10 +85,10 @@ module _ (rest limit : ℕ) {Message : Type 0} (binding : Binding Message) (call
   -- same order stood in every accepted list from that one to this; a fresh desk's table counts as an empty list."
 
   -- M-3c, A-23: slot i has a condition, and it is so of that condition's order. With the first table there is no previous one.
-  abbrev pub Carried : List ℕ → ℕ → Type 0
-  Carried [] i = ⊥
-  Carried (n ∷ []) i = ⊥
-  Carried (n ∷ m ∷ before) i =
+  abbrev pub IsCarriedOn : List ℕ → ℕ → Type 0
+  IsCarriedOn [] i = ⊥
+  IsCarriedOn (n ∷ []) i = ⊥
+  IsCarriedOn (n ∷ m ∷ before) i =
       let order = orderIn rest calls n i in
       (1 ≤ order) × (n ≤ m + limit) × StoodFrom rest calls order m n
 
@@ -97,22 +97,22 @@ module _ (rest limit : ℕ) {Message : Type 0} (binding : Binding Message) (call
   -- M-3e: whatever was lost before, a telegram after which its table has been heard whole leaves that table as the picture
   abbrev pub PutRight : List (Item Message) → Type 0
   PutRight [] = Unit
-  PutRight (sent n p ∷ earlier) = isWhole (sent n p ∷ earlier) n ≡ true → listenerAfter (sent n p ∷ earlier) .picture ≡ tableIn rest calls n
+  PutRight (sent n p ∷ earlier) = heardWhole (sent n p ∷ earlier) n ≡ true → listenerAfter (sent n p ∷ earlier) .picture ≡ tableIn rest calls n
   PutRight (spoilt other ∷ earlier) = Unit
 
   -- ---- and the answers, which the user reads in the listing
 
   -- L-05, L-08, C-09: the true distance from the previous whole table; 0 for the first
-  abbrev pub distance : List ℕ → ℕ → ℕ
-  distance [] n = 0
-  distance (m ∷ before) n = n - m
+  abbrev pub trueGap : List ℕ → ℕ → ℕ
+  trueGap [] n = 0
+  trueGap (m ∷ before) n = n - m
 
   -- L-01 to L-04: a telegram that was heard before is a repeat; one that makes its table whole is answered with that table's step
   -- number, its conditions and the distance; any other is held. None that the desk sent is refused.
   abbrev pub expected : Item Message → List (Item Message) → Told
   expected (sent n p) earlier =
       cond (wasHeard earlier n p) asRepeat
-      (cond (isWhole (sent n p ∷ earlier) n) (takenAs (n % steps) (countOf (tableIn rest calls n)) (distance (wholes earlier) n))
+      (cond (heardWhole (sent n p ∷ earlier) n) (takenAs (n % steps) (countOf (tableIn rest calls n)) (trueGap (wholes earlier) n))
       asHeld)
   expected (spoilt other) earlier = refusedAs (numberOf (binding .read other .verdict))
 
@@ -124,6 +124,6 @@ module _ (rest limit : ℕ) {Message : Type 0} (binding : Binding Message) (call
   pub record Claim (heard : List (Item Message)) : Type 0 where
     pub picture : listenerAfter heard .picture ≡ pictureOf (wholes heard)
     pub last : listenerAfter heard .last ≡ lastOf (wholes heard)
-    pub carried : (i : ℕ) → (markAt (listenerAfter heard .marks) i ≡ true) ↔ Carried (wholes heard) i
+    pub carried : (i : ℕ) → (markAt (listenerAfter heard .marks) i ≡ true) ↔ IsCarriedOn (wholes heard) i
     pub right : PutRight heard
     pub answered : Answered heard

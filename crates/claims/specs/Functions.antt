@@ -94,5 +94,5 @@ OfUpdate Such = Promised update.ended update.Reads.Learnt (λ κs (signals, (pre
 -- `signals_in_place::update(held, present, telegram)`: the record before, and after
 abbrev pub OfUpdateLent : (Signals → Bool → List ℕ → Train.Answer → Signals → Type 0) → Type 2
 OfUpdateLent Such =
-    Asserted.Promised update-lent.ended (λ M 𝓤. update-lent.clauses 𝓤)
+    Asserted.PromisedLent update-lent.ended (λ M 𝓤. update-lent.clauses 𝓤)
     (λ κs (held, (present, (telegram, _))) answer (after, _). Such (held .now) present (telegram .now) answer after)

@@ -3,7 +3,7 @@ use Prim.Native.Nat.{ℕ, _+_, _≤_}
 use mathlib.Core.Bool.{Bool, false, cond, not, _&&_, _||_}
 use mathlib.Core.List.{List, [], _∷_}
 use lib.Dec.{eqb}
-use Rattle.kit.specs.Loops.{count}
+use Rattle.kit.specs.Loops.{howMany}
 use Rattle.telegram.specs.Tables.{packets, firstPacket}
 
 -- one telegram heard: packet p of the table of step n, as it was sent; or one that was spoilt on the way
@@ -28,13 +28,13 @@ module _ {Message : Type 0} where
   wasHeard (spoilt message ∷ earlier) n p = wasHeard earlier n p
 
   -- A-23: a table was heard whole: five of its packets were heard, 3 to 7
-  unfoldable pub isWhole : List (Item Message) → ℕ → Bool
-  isWhole heard n = eqb (count (λ k. wasHeard heard n (firstPacket + k)) packets) packets
+  unfoldable pub heardWhole : List (Item Message) → ℕ → Bool
+  heardWhole heard n = eqb (howMany (λ k. wasHeard heard n (firstPacket + k)) packets) packets
 
   -- M-3a: the steps whose tables were heard whole, the newest first: a telegram adds its own where it completes that
   unfoldable pub wholes : List (Item Message) → List ℕ
   wholes [] = []
-  wholes (sent n p ∷ earlier) = cond (isWhole (sent n p ∷ earlier) n && not (isWhole earlier n)) (n ∷ wholes earlier) (wholes earlier)
+  wholes (sent n p ∷ earlier) = cond (heardWhole (sent n p ∷ earlier) n && not (heardWhole earlier n)) (n ∷ wholes earlier) (wholes earlier)
   wholes (spoilt message ∷ earlier) = wholes earlier
 
   -- M-3, A-24: the step of the first telegram heard; where none was, n

@@ -23,11 +23,11 @@ use mathlib.Core.List.{List, [], _∷_}
 use lib.ListN.{length, getD}
 use Rattle.wire.specs.Steps.{steps}
 use Rattle.wire.specs.declared.verdicts.Verdict.the-variants.{Accepted, Refused}
-use Rattle.condition.specs.Slots.{slots, codedOf, kindOf, settled}
+use Rattle.condition.specs.Slots.{slotCount, codedOf, kindOf, settled}
 use Rattle.order_list.specs.Lists.{orderAt, orderCount}
 use Rattle.places.specs.Places.{freePlace, placeAt}
 use Rattle.resting.specs.Rests.{isResting}
-use Rattle.desk.specs.Desks.{rest as eight, Made}
+use Rattle.desk.specs.Desks.{baseRest as eight, Made}
 use Rattle.desk.specs.Runs.{InNewest, EndedAgo, OneNew}
 use Rattle.desk.specs.declared.Desk.{Desk}
 use Rattle.claims.specs.Calls.{deskAfter, accepted, stepsMade, deskOf, StoodIn}
@@ -37,7 +37,7 @@ use Rattle.claims.specs.Functions.{OfFreshDesk, OfAccept}
 
 -- A-01: an order has slot i of a desk's table
 abbrev pub HasSlot : Desk → ℕ → ℕ → Type 0
-HasSlot desk order i = (1 ≤ order) × (i < slots) × (placeAt (desk .places) i .order ≡ order)
+HasSlot desk order i = (1 ≤ order) × (i < slotCount) × (placeAt (desk .places) i .order ≡ order)
 
 -- D-06: an order is live: it has a slot
 abbrev pub Live : Desk → ℕ → Type 0

@@ -7,11 +7,11 @@ use mathlib.Core.Bool.{true, false, not, _&&_}
 use lib.Dec.{eqb, ltb, leb}
 use native.Mathlib.Omega.{arith}
 use borrow.Author.Tests.{eqb-true, eqb-false, ltb-true, leb-true, ne-eqb, lt-ltb, not-false}
-use Rattle.kit.specs.Ladder.{Silent, Numbered}
+use Rattle.kit.specs.Ladder.{NoneHolds, Numbered}
 use Rattle.kit.proofs.Cases.{on, clash, given, and-both, and-second, above-zero}
 use Rattle.wire.specs.Distances.{noValue}
 use Rattle.kinds.specs.Words.{isType, isConsidered, secondAllowed, secondHeld, isVoltage}
-use Rattle.condition.specs.Slots.{isFilled, isOccupied, bodyOf, slotRows, slotIn, coding, codedOf, settled, HeldBody, Held}
+use Rattle.condition.specs.Slots.{isFilled, isOccupied, bodyOf, slotRows, slotIn, coding, codedOf, settled, HeldBody, MayHold}
 use Rattle.condition.specs.declared.slots.Body.{Body}
 use Rattle.condition.specs.declared.slots.Body.the-variants.{Empty, Area, Traction, Current}
 use Rattle.condition.specs.declared.slots.Coded.{Coded}
@@ -33,7 +33,7 @@ pub record Filled (c : Coded) : Type 0 where
   pub kind : isType (c .kind) ≡ true
   pub allowed : secondAllowed (c .kind) (c .first) (c .second) ≡ true
 
-pub rows-say : (c : Coded) → Silent (slotRows c) → Zero c ⊎ Filled c
+pub rows-say : (c : Coded) → NoneHolds (slotRows c) → Zero c ⊎ Filled c
 unfolding slotRows
 rows-say c (row12, (row13, (row6, u))) =
     on (eqb (c .number) 0)
@@ -47,7 +47,7 @@ rows-say c (row12, (row13, (row6, u))) =
     let p : ltb 0 (c .number) ≡ true = above-zero (c .number) (eqb-false (c .number) 0 e) in
     inr (record { number = ltb-true 0 (c .number) p; kind = not-false _ (and-second _ _ row13 p); allowed = not-false _ row6 }))
 
-pub filled-silent : (c : Coded) → Filled c → Silent (slotRows c)
+pub filled-silent : (c : Coded) → Filled c → NoneHolds (slotRows c)
 unfolding slotRows
 filled-silent c f =
     let n : eqb (c .number) 0 ≡ false = ne-eqb (c .number) 0 (omega (arith, f .number)) in
@@ -88,15 +88,15 @@ module _ (number first second : ℕ) (p : 0 < number) where
       by-kind (λ k. secondAllowed k first second ≡ true → HeldBody number (bodyOf k first second)) kind traction-held current-held
       (λ e f a. area-held kind t e f) a
 
-zero-held : (c : Coded) → Zero c → Held (slotIn c)
+zero-held : (c : Coded) → Zero c → MayHold (slotIn c)
 unfolding bodyOf
 zero-held c z = rw (z .number, z .kind) refl
 
 -- M-2e of a slot: what is read has valid codes
-pub read-held : (c : Coded) → Silent (slotRows c) → Held (slotIn c)
+pub read-held : (c : Coded) → NoneHolds (slotRows c) → MayHold (slotIn c)
 read-held c s = go (rows-say c s)
   where
-    go : Zero c ⊎ Filled c → Held (slotIn c)
+    go : Zero c ⊎ Filled c → MayHold (slotIn c)
     go (inl z) = zero-held c z
     go (inr f) = body-held (c .number) (c .first) (c .second) (f .number) (c .kind) (f .kind) (f .allowed)
 
@@ -137,7 +137,7 @@ unfolding codedOf bodyOf secondHeld isConsidered
 zero-again c z = rw (z .number, z .kind, z .first, z .second) refl
 
 -- K-12 of a slot: nothing alters but a second word that is not considered
-pub coded-back : (c : Coded) → Silent (slotRows c) → codedOf (slotIn c) ≡ settled c
+pub coded-back : (c : Coded) → NoneHolds (slotRows c) → codedOf (slotIn c) ≡ settled c
 unfolding codedOf
 coded-back c s = go (rows-say c s)
   where
@@ -154,7 +154,7 @@ coded-back c s = go (rows-say c s)
 
 -- a held slot, coded, is refused by no row, and means that slot
 abbrev Back : ℕ → Body → Type 0
-Back number body = Silent (slotRows (coding number body)) × (slotIn (coding number body) ≡ record { number = number; body = body })
+Back number body = NoneHolds (slotRows (coding number body)) × (slotIn (coding number body) ≡ record { number = number; body = body })
 
 back : (number : ℕ) (body : Body) → HeldBody number body → Back number body
 unfolding slotRows bodyOf secondAllowed secondHeld isConsidered
@@ -194,11 +194,11 @@ back number (Current change limit) (p, l, z) =
     ))
     (λ e. ((rw n0 refl, (rw n1 refl, (rw (e, l) refl, tt))), rw e refl))
 
-pub coded-silent : (x : Slot) → Held x → Silent (slotRows (codedOf x))
+pub coded-silent : (x : Slot) → MayHold x → NoneHolds (slotRows (codedOf x))
 unfolding codedOf
 coded-silent x h = back (x .number) (x .body) h .0
 
-pub slot-in-back : (x : Slot) → Held x → slotIn (codedOf x) ≡ x
+pub slot-in-back : (x : Slot) → MayHold x → slotIn (codedOf x) ≡ x
 unfolding codedOf
 slot-in-back x h = back (x .number) (x .body) h .1
 
@@ -209,5 +209,5 @@ occupied-by number (Area kind entry exit) h = (λ e. h .0, λ p. refl)
 occupied-by number (Traction change country voltage) h = (λ e. h .0, λ p. refl)
 occupied-by number (Current change limit) h = (λ e. h .0, λ p. refl)
 
-pub held-occupied : (x : Slot) → Held x → (isOccupied x ≡ true) ↔ (0 < x .number)
+pub held-occupied : (x : Slot) → MayHold x → (isOccupied x ≡ true) ↔ (0 < x .number)
 held-occupied x = occupied-by (x .number) (x .body)

@@ -7,15 +7,15 @@ use lib.Dec.{eqb, ltb}
 use Rattle.kit.specs.Bytes.{wordBytes}
 use Rattle.kit.specs.Ladder.{ladder}
 use Rattle.wire.specs.Distances.{noValue}
-use Rattle.kinds.specs.Words.{isType, isVoltage, currentWord, secondAllowed, secondHeld}
+use Rattle.kinds.specs.Words.{isType, isVoltage, isCurrentWord, secondAllowed, secondHeld}
 use Rattle.condition.specs.declared.slots.Body.{Body}
 use Rattle.condition.specs.declared.slots.Body.the-variants.{Empty, Area, Traction, Current}
 use Rattle.condition.specs.declared.slots.Coded.{Coded}
 use Rattle.condition.specs.declared.slots.Slot.{Slot}
 
 -- W-01: a table has twenty slots, 0 to 19
-abbrev pub slots : ℕ
-slots = 20
+abbrev pub slotCount : ℕ
+slotCount = 20
 
 -- T-05: the empty slot
 abbrev pub emptySlot : Slot
@@ -87,8 +87,8 @@ abbrev pub HeldBody : ℕ → Body → Type 0
 HeldBody number Empty = number ≡ 0
 HeldBody number (Area kind entry exit) = (0 < number) × (isType kind ≡ true) × (eqb kind 4 ≡ false) × (eqb kind 5 ≡ false)
 HeldBody number (Traction change country voltage) = (0 < number) × (country < 1024) × (isVoltage voltage ≡ true) × (change ≡ noValue → (country ≡ 0) × (voltage ≡ 0))
-HeldBody number (Current change limit) = (0 < number) × (currentWord limit ≡ true) × (change ≡ noValue → limit ≡ 0)
+HeldBody number (Current change limit) = (0 < number) × (isCurrentWord limit ≡ true) × (change ≡ noValue → limit ≡ 0)
 
 -- the same, of the slot
-abbrev pub Held : Slot → Type 0
-Held x = HeldBody (x .number) (x .body)
+abbrev pub MayHold : Slot → Type 0
+MayHold x = HeldBody (x .number) (x .body)

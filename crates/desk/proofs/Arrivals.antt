@@ -13,7 +13,7 @@ use native.Mathlib.Omega.{arith}
 use Rattle.kit.specs.Member.{member}
 use Rattle.kit.proofs.Cases.{on, given}
 use Rattle.kit.proofs.Loops.{fold-none, fold-more}
-use Rattle.condition.specs.Slots.{slots}
+use Rattle.condition.specs.Slots.{slotCount}
 use Rattle.order_list.specs.Lists.{stands, orderAt, orderCount}
 use Rattle.places.specs.Places.{freePlace, placeAt, lowestFree, isLive}
 use Rattle.places.specs.declared.Place.{Place}
@@ -66,7 +66,7 @@ module _ (resting : ℕ → Bool) (kept : List ℕ) (covered : (n : ℕ) → res
   -- ---- one turn
 
   module _ (j : ℕ) (p : j < orderCount list) where
-    pub has-room : isLive (upTo j .places) (named j) ≡ false → lowestFree (upTo j .places) < slots
+    pub has-room : isLive (upTo j .places) (named j) ≡ false → lowestFree (upTo j .places) < slotCount
     has-room unlive = room resting kept covered few list fair start ready listed (upTo j) j (so-far j (omega arith)) p unlive
 
     each-slot : isLive (upTo j .places) (named j) ≡ false → (i : ℕ) → Spot (upTo j .places) (newPlace resting (orderAt list j) (upTo j)) i
@@ -85,7 +85,7 @@ module _ (resting : ℕ → Bool) (kept : List ℕ) (covered : (n : ℕ) → res
         (λ e. ap (λ (s : Seats). placeAt (s .places) i) (turn-live j e))
         (λ e. ap (λ (s : Seats). placeAt (s .places) i) (turn-new j e) ∙ go (has-room e) (each-slot e i))
       where
-        go : lowestFree (upTo j .places) < slots → Spot (upTo j .places) (newPlace resting (orderAt list j) (upTo j)) i
+        go : lowestFree (upTo j .places) < slotCount → Spot (upTo j .places) (newPlace resting (orderAt list j) (upTo j)) i
             → placeAt (set (upTo j .places) (lowestFree (upTo j .places)) (newPlace resting (orderAt list j) (upTo j))) i ≡ placeAt (upTo j .places) i
         go spare (inl (here, e)) = absurd (omega (arith, ap (λ k. placeAt (upTo j .places) k .order) here ∙ free-there (upTo j .places) spare))
         go spare (inr e) = e

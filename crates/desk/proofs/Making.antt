@@ -10,8 +10,8 @@ use Rattle.wire.proofs.Answers.{verdict-accepted, verdict-refused}
 use Rattle.wire.specs.declared.verdicts.Verdict.the-variants.{Accepted as accepted, Refused}
 use Rattle.orders.specs.Orders.{listRefusal}
 use Rattle.desk.specs.declared.Desk.{Desk}
-use Rattle.desk.specs.Desks.{rest, acceptOf, Made, made, called}
-use Rattle.desk.specs.Runs.{run, Accepted}
+use Rattle.desk.specs.Desks.{baseRest, acceptOf, Made, made, called}
+use Rattle.desk.specs.Runs.{deskRun, AllAccepted}
 use Rattle.desk.specs.Steps.{stepOf}
 use Rattle.desk.proofs.Stepping.{Sound}
 use Rattle.desk.proofs.Tracing.{run-sound}
@@ -28,22 +28,22 @@ module _ (figure : ℕ) (desk : Desk) (list : List ℕ) where
   refuses n = rw (ne-eqb (listRefusal (desk .places) list) 0 n) (λ i. record { verdict = verdict-refused (listRefusal (desk .places) list) n i; desk = desk })
 
 -- the accepted lists of a desk that was made
-pub made-run : {desk : Desk} → Made desk → (h : List (List ℕ)) × Accepted rest rest h × (desk ≡ run rest rest h)
-unfolding run
+pub made-run : {desk : Desk} → Made desk → (h : List (List ℕ)) × AllAccepted baseRest baseRest h × (desk ≡ deskRun baseRest baseRest h)
+unfolding deskRun
 made-run made = ([], tt, refl)
 made-run (called {desk} m list) = go (made-run m)
   where
-    go : (h : List (List ℕ)) × Accepted rest rest h × (desk ≡ run rest rest h)
-        → (h : List (List ℕ)) × Accepted rest rest h × (acceptOf rest desk list .desk ≡ run rest rest h)
+    go : (h : List (List ℕ)) × AllAccepted baseRest baseRest h × (desk ≡ deskRun baseRest baseRest h)
+        → (h : List (List ℕ)) × AllAccepted baseRest baseRest h × (acceptOf baseRest desk list .desk ≡ deskRun baseRest baseRest h)
     go (h, a, e) =
         on (eqb (listRefusal (desk .places) list) 0)
         (λ z.
         let zero : listRefusal (desk .places) list ≡ 0 = eqb-true (listRefusal (desk .places) list) 0 z in
-        (list ∷ h, (subst (λ (d : Desk). listRefusal (d .places) list ≡ 0) e zero, a), ap (λ r. r .desk) (accepts rest desk list zero) ∙ ap (λ (d : Desk). stepOf rest d list) e))
-        (λ z. (h, a, ap (λ r. r .desk) (refuses rest desk list (eqb-false (listRefusal (desk .places) list) 0 z)) ∙ e))
+        (list ∷ h, (subst (λ (d : Desk). listRefusal (d .places) list ≡ 0) e zero, a), ap (λ r. r .desk) (accepts baseRest desk list zero) ∙ ap (λ (d : Desk). stepOf baseRest d list) e))
+        (λ z. (h, a, ap (λ r. r .desk) (refuses baseRest desk list (eqb-false (listRefusal (desk .places) list) 0 z)) ∙ e))
 
-pub made-sound : {desk : Desk} → Made desk → Sound rest desk
+pub made-sound : {desk : Desk} → Made desk → Sound baseRest desk
 made-sound m = go (made-run m)
   where
-    go : {desk : Desk} → (h : List (List ℕ)) × Accepted rest rest h × (desk ≡ run rest rest h) → Sound rest desk
-    go (h, a, e) = subst (Sound rest) (sym e) (run-sound rest rest (omega arith) (omega arith) h a)
+    go : {desk : Desk} → (h : List (List ℕ)) × AllAccepted baseRest baseRest h × (desk ≡ deskRun baseRest baseRest h) → Sound baseRest desk
+    go (h, a, e) = subst (Sound baseRest) (sym e) (run-sound baseRest baseRest (omega arith) (omega arith) h a)

@@ -9,7 +9,7 @@ use lib.ListN.{length}
 use native.Mathlib.Omega.{arith}
 use Rattle.kit.specs.Member.{member}
 use Rattle.kit.proofs.Cases.{on, clash, given}
-use Rattle.condition.specs.Slots.{slots}
+use Rattle.condition.specs.Slots.{slotCount}
 use Rattle.order_list.specs.Lists.{stands, orderAt, orderCount}
 use Rattle.order_list.proofs.Listed.{listed-when}
 use Rattle.places.specs.Places.{freePlace, placeAt, placeOf, lowestFree, isLive}
@@ -28,7 +28,7 @@ use Rattle.arriving.proofs.Seated.{newPlace}
 use Rattle.desk.specs.Steps.{nextStep, keptPlace, endedNumbers, stepOf}
 use Rattle.desk.specs.declared.Desk.{Desk}
 use Rattle.desk.specs.Desks.{freshWith}
-use Rattle.desk.specs.Runs.{run, Accepted}
+use Rattle.desk.specs.Runs.{deskRun, AllAccepted}
 use Rattle.desk.proofs.Arrivals as arrivals
 use Rattle.desk.proofs.Endings.{kept-at}
 use Rattle.desk.proofs.Seating.{Orderly, After}
@@ -139,12 +139,12 @@ module _ (rest rows : ℕ) (enough : rest ≤ rows) (few : rows ≤ 11) (desk : 
       (omega (arith, same, fair .named j p))))))
       (λ f. f ∙ sym e))
     where
-      still : (i : ℕ) → i < slots → placeAt old i .order ≡ named j → isLive (turnOf j .places) (named j) ≡ true
+      still : (i : ℕ) → i < slotCount → placeAt old i .order ≡ named j → isLive (turnOf j .places) (named j) ≡ true
       still i inside same =
           live-when (turnOf j .places) (named j) i inside
           (stays-at j i (omega arith) (omega (arith, fair .named j p)) (listed-when list (orderCount list) (placeAt old i .order) j p (sym same)) ∙ same)
 
-      go : isLive old (named j) ≡ false → (i : ℕ) → i < slots → placeAt (turnOf j .places) i .order ≡ named j
+      go : isLive old (named j) ≡ false → (i : ℕ) → i < slotCount → placeAt (turnOf j .places) i .order ≡ named j
           → (placeAt (turnOf j .places) i ≡ placeAt start i)
           ⊎ ((m : ℕ) × (m < j) × (isLive (turnOf m .places) (named m) ≡ false) × (placeAt (turnOf j .places) i .order ≡ named m))
           → ⊥
@@ -182,7 +182,7 @@ module _ (rest rows : ℕ) (enough : rest ≤ rows) (few : rows ≤ 11) (desk : 
 
   module _ (j : ℕ) (p : j < orderCount list) (new : isLive old (named j) ≡ false) where
     -- D-08: it has the slot that is the lowest free one then, and the number that the search found
-    pub given-slot : (lowestFree (turnOf j .places) < slots) × (placeAt (next .places) (lowestFree (turnOf j .places)) ≡ newPlace resting (orderAt list j) (turnOf j))
+    pub given-slot : (lowestFree (turnOf j .places) < slotCount) × (placeAt (next .places) (lowestFree (turnOf j .places)) ≡ newPlace resting (orderAt list j) (turnOf j))
     given-slot =
         let unlive = same-live j p ∙ new in
         let takes = arrivals.takes resting bars covers small list fair start ready listed (desk .last) j p unlive in (
@@ -202,11 +202,11 @@ module _ (rest rows : ℕ) (enough : rest ≤ rows) (few : rows ≤ 11) (desk : 
 -- ---- over many steps
 
 -- D-10: the last number given is at most 255
-pub run-last : (rest rows : ℕ) (enough : rest ≤ rows) (few : rows ≤ 11) (h : List (List ℕ)) → Accepted rest rows h → run rest rows h .last ≤ 255
-unfolding run freshWith
+pub run-last : (rest rows : ℕ) (enough : rest ≤ rows) (few : rows ≤ 11) (h : List (List ℕ)) → AllAccepted rest rows h → deskRun rest rows h .last ≤ 255
+unfolding deskRun freshWith
 run-last rest rows enough few [] a = omega arith
 run-last rest rows enough few (list ∷ h) (p, a) =
-    let before = run rest rows h in
+    let before = deskRun rest rows h in
     let sound : Sound rows before = run-sound rest rows enough few h a in
     let listed : Fair (before .places) list = fair (before .places) list p in
     subst (λ n. n ≤ 255) (sym (at-end rest rows enough few before sound list listed .1))

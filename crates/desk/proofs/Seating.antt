@@ -17,8 +17,8 @@ use Rattle.kit.specs.Member.{member}
 use Rattle.kit.proofs.Cases.{on, given}
 use Rattle.kit.proofs.Loops.{fold-none, fold-more}
 use Rattle.kit.proofs.Member.{too-many}
-use Rattle.kit.specs.Ladder.{Silent}
-use Rattle.condition.specs.Slots.{slotRows, codedOf, settled, Held, slots}
+use Rattle.kit.specs.Ladder.{NoneHolds}
+use Rattle.condition.specs.Slots.{slotRows, codedOf, settled, MayHold, slotCount}
 use Rattle.condition.specs.declared.slots.Coded.{Coded}
 use Rattle.condition.specs.declared.slots.Slot.{Slot}
 use Rattle.condition.proofs.Coding.{filled-silent, read-held, coded-back}
@@ -42,20 +42,20 @@ Distinct of places = (i j : ℕ) → 1 ≤ of (placeAt places i) → of (placeAt
 
 -- what is true of a desk's places (READINGS 3.4, d1 to d3)
 pub record Orderly (places : List Place) : Type 0 where
-  pub twenty : length places ≡ slots
+  pub twenty : length places ≡ slotCount
   pub free : (i : ℕ) → placeAt places i .order ≡ 0 → placeAt places i ≡ freePlace
   pub numbered : (i : ℕ) → 1 ≤ placeAt places i .order → (1 ≤ placeAt places i .slot .number) × (placeAt places i .slot .number ≤ 255)
   pub apart : Distinct (λ place. place .slot .number) places
   pub single : Distinct (λ place. place .order) places
-  pub held : (i : ℕ) → Held (placeAt places i .slot)
+  pub held : (i : ℕ) → MayHold (placeAt places i .slot)
 
 module _ {places : List Place} (o : Orderly places) where
   -- a place with an order is one of the twenty
-  pub inside : (i : ℕ) → 1 ≤ placeAt places i .order → i < slots
+  pub inside : (i : ℕ) → 1 ≤ placeAt places i .order → i < slotCount
   inside i p =
-      on (ltb i slots)
-      (λ e. ltb-true i slots e)
-      (λ e. absurd (omega (arith, ap (λ (x : Place). x .order) (List·getD-eq-default places freePlace {n = i} (omega (arith, o .twenty, ltb-false i slots e))))))
+      on (ltb i slotCount)
+      (λ e. ltb-true i slotCount e)
+      (λ e. absurd (omega (arith, ap (λ (x : Place). x .order) (List·getD-eq-default places freePlace {n = i} (omega (arith, o .twenty, ltb-false i slotCount e))))))
 
   -- a place with a number has an order
   pub ordered : (i : ℕ) → 1 ≤ placeAt places i .slot .number → 1 ≤ placeAt places i .order
@@ -78,10 +78,10 @@ module _ {old : List Place} {list : List ℕ} (fair : Fair old list) {j : ℕ} (
   abbrev pub coded : Coded
   coded = record { number = number; kind = orderAt list j .kind; first = orderAt list j .first; second = orderAt list j .second }
 
-  silent : Silent (slotRows coded)
+  silent : NoneHolds (slotRows coded)
   silent = filled-silent coded (record { number = positive; kind = fair .typed j inlist; allowed = fair .allowed j inlist })
 
-  pub made-held : Held made
+  pub made-held : MayHold made
   made-held = read-held coded silent
 
   pub made-coded : codedOf made ≡ settled coded
@@ -107,8 +107,8 @@ spot places new p i =
 -- ---- one place taken
 
 module _ (places : List Place) (o : Orderly places) (new : Place) (named : 1 ≤ new .order) (positive : 1 ≤ new .slot .number)
-    (small : new .slot .number ≤ 255) (held : Held (new .slot)) (unlive : isLive places (new .order) ≡ false) (room : lowestFree places < slots)
-    (unused : (i : ℕ) → i < slots → placeAt places i .slot .number ≡ new .slot .number → ⊥) where
+    (small : new .slot .number ≤ 255) (held : MayHold (new .slot)) (unlive : isLive places (new .order) ≡ false) (room : lowestFree places < slotCount)
+    (unused : (i : ℕ) → i < slotCount → placeAt places i .slot .number ≡ new .slot .number → ⊥) where
   abbrev beyond : List Place
   beyond = taken places new
 
@@ -136,7 +136,7 @@ module _ (places : List Place) (o : Orderly places) (new : Place) (named : 1 ≤
   taken-distinct of distinct none i j (inr d) (inl (b, e)) p q = absurd (none i (rw (d, e) at q))
   taken-distinct of distinct none i j (inr d) (inr e) p q = distinct i j (rw d at p) (rw (d, e) at q)
 
-  taken-held : (i : ℕ) → Spot places new i → Held (placeAt beyond i .slot)
+  taken-held : (i : ℕ) → Spot places new i → MayHold (placeAt beyond i .slot)
   taken-held i (inl (here, e)) = rw e held
   taken-held i (inr e) = rw e (o .held i)
 
@@ -155,7 +155,7 @@ module _ (places : List Place) (o : Orderly places) (new : Place) (named : 1 ≤
 
 -- D-08: an order that is not live finds a free slot
 abbrev pub Room : Order → Seats → Type 0
-Room order seats = isLive (seats .places) (order .number) ≡ false → lowestFree (seats .places) < slots
+Room order seats = isLive (seats .places) (order .number) ≡ false → lowestFree (seats .places) < slotCount
 
 -- D-08: each of the first n orders does, when its turn comes
 abbrev pub RoomForAll : (ℕ → Bool) → List ℕ → Seats → ℕ → Type 0
@@ -196,35 +196,35 @@ module _ (resting : ℕ → Bool) (kept : List ℕ) (covered : (n : ℕ) → res
     -- where no place is free, twenty orders and this one stand in a list of twenty
     module _ (unlive : isLive (seats .places) (order .number) ≡ false) where
       crowd : ℕ → ℕ
-      crowd i = cond (ltb i slots) (placeAt (seats .places) i .order) (order .number)
+      crowd i = cond (ltb i slotCount) (placeAt (seats .places) i .order) (order .number)
 
-      crowd-listed : slots ≤ lowestFree (seats .places) → (i : ℕ) → stands list (crowd i) ≡ true
+      crowd-listed : slotCount ≤ lowestFree (seats .places) → (i : ℕ) → stands list (crowd i) ≡ true
       unfolding crowd
       crowd-listed none i =
-          on (ltb i slots)
-          (λ e. rw e (still-listed i (a .grown i) (free-none (seats .places) none i (ltb-true i slots e))))
+          on (ltb i slotCount)
+          (λ e. rw e (still-listed i (a .grown i) (free-none (seats .places) none i (ltb-true i slotCount e))))
           (λ e. rw e (listed-when list (orderCount list) (order .number) j p refl))
 
-      crowd-single : slots ≤ lowestFree (seats .places) → (i k : ℕ) → i < 21 → k < 21 → crowd i ≡ crowd k → i ≡ k
+      crowd-single : slotCount ≤ lowestFree (seats .places) → (i k : ℕ) → i < 21 → k < 21 → crowd i ≡ crowd k → i ≡ k
       unfolding crowd
       crowd-single none i k q r same =
-          on (ltb i slots)
+          on (ltb i slotCount)
           (λ e.
-          on (ltb k slots)
-          (λ f. a .orderly .single i k (free-none (seats .places) none i (ltb-true i slots e)) (rw (e, f) at same))
-          (λ f. absurd (live-none (seats .places) (order .number) i unlive (ltb-true i slots e) (rw (e, f) at same))))
+          on (ltb k slotCount)
+          (λ f. a .orderly .single i k (free-none (seats .places) none i (ltb-true i slotCount e)) (rw (e, f) at same))
+          (λ f. absurd (live-none (seats .places) (order .number) i unlive (ltb-true i slotCount e) (rw (e, f) at same))))
           (λ e.
-          on (ltb k slots)
-          (λ f. absurd (live-none (seats .places) (order .number) k unlive (ltb-true k slots f) (sym (rw (e, f) at same))))
-          (λ f. omega (arith, ltb-false i slots e, ltb-false k slots f)))
+          on (ltb k slotCount)
+          (λ f. absurd (live-none (seats .places) (order .number) k unlive (ltb-true k slotCount f) (sym (rw (e, f) at same))))
+          (λ f. omega (arith, ltb-false i slotCount e, ltb-false k slotCount f)))
 
       -- D-08: so a new order finds a free slot
-      pub room : lowestFree (seats .places) < slots
+      pub room : lowestFree (seats .places) < slotCount
       room =
-          on (ltb (lowestFree (seats .places)) slots)
-          (λ e. ltb-true (lowestFree (seats .places)) slots e)
+          on (ltb (lowestFree (seats .places)) slotCount)
+          (λ e. ltb-true (lowestFree (seats .places)) slotCount e)
           (λ e.
-          let none : slots ≤ lowestFree (seats .places) = ltb-false (lowestFree (seats .places)) slots e in
+          let none : slotCount ≤ lowestFree (seats .places) = ltb-false (lowestFree (seats .places)) slotCount e in
           absurd
           (too-many (λ i. listedAt list (orderCount list) (crowd i)) 21 (orderCount list)
           (λ i k q r same.
@@ -243,7 +243,7 @@ module _ (resting : ℕ → Bool) (kept : List ℕ) (covered : (n : ℕ) → res
       range : (1 ≤ number) × (number ≤ 255)
       range = number-range resting kept covered few (seats .places) (a .orderly .twenty) (seats .last)
 
-      idle : (i : ℕ) → i < slots → placeAt (seats .places) i .slot .number ≡ number → ⊥
+      idle : (i : ℕ) → i < slotCount → placeAt (seats .places) i .slot .number ≡ number → ⊥
       idle = number-idle resting kept covered few (seats .places) (a .orderly .twenty) (seats .last)
 
       -- what stood in a place at the start stands there still

@@ -8,7 +8,7 @@ use mathlib.Core.List.{List, map}
 use lib.ListN.{length-map}
 use native.Mathlib.Omega.{arith}
 use Rattle.kit.proofs.Cases.{on}
-use Rattle.condition.specs.Slots.{codedOf, Held}
+use Rattle.condition.specs.Slots.{codedOf, MayHold}
 use Rattle.order_list.specs.Lists.{stands, orderNamed, orderAt, orderCount, listedAt}
 use Rattle.places.specs.Places.{freePlace, placeAt, placeOf, isLive}
 use Rattle.places.specs.declared.Place.{Place}
@@ -30,7 +30,7 @@ module _ {places : List Place} (o : Orderly places) {list : List ℕ} (fair : Fa
     pub number : place .slot .number ≡ placeAt places i .slot .number
     pub body : place .slot .body ≡ bodyIn (orderNamed list (placeAt places i .order))
     pub kind : codedOf (place .slot) .kind ≡ codedOf (placeAt places i .slot) .kind
-    pub held : Held (place .slot)
+    pub held : MayHold (place .slot)
 
   module _ (i : ℕ) (listed : stands list (placeAt places i .order) ≡ true) where
     abbrev entry : ℕ
@@ -84,7 +84,7 @@ module _ {places : List Place} (o : Orderly places) {list : List ℕ} (fair : Fa
   kept-distinct of zero same distinct i j (inl s) (inr e) p q = absurd (omega (arith, ap of e ∙ zero))
   kept-distinct of zero same distinct i j (inr e) t p q = absurd (omega (arith, ap of e ∙ zero))
 
-  kept-held : (i : ℕ) → Case i → Held (placeAt kept i .slot)
+  kept-held : (i : ℕ) → Case i → MayHold (placeAt kept i .slot)
   kept-held i (inl s) = s .held
   kept-held i (inr e) = rw e refl
 

@@ -15,7 +15,7 @@ use Rattle.wire.specs.Steps.{steps, gapOf}
 use Rattle.wire.proofs.Round.{gap-round, gap-only}
 use Rattle.order_list.specs.Lists.{orderNamed, stands, orderAt, orderCount, listedAt}
 use Rattle.places.specs.Places.{freePlace, placeAt, placeOf, isLive}
-use Rattle.condition.specs.Slots.{slots}
+use Rattle.condition.specs.Slots.{slotCount}
 use Rattle.places.specs.declared.Place.{Place}
 use Rattle.order_list.proofs.Listed.{listed-there, listed-when}
 use Rattle.places.proofs.Live.{live-there}
@@ -35,10 +35,10 @@ use Rattle.desk.proofs.Staying.{Stayed, case, kept-orderly, kept-listed
 -- what is true of a desk that was made (READINGS 3.4, d1 to d6): an entry of the ended numbers in row k, from 0, ended k steps ago
 pub record Sound (rows : ℕ) (desk : Desk) : Type 0 where
   pub orderly : Orderly (desk .places)
-  pub kept : length (desk .ended) ≡ slots * rows
+  pub kept : length (desk .ended) ≡ slotCount * rows
   pub below : desk .step < steps
   pub aged : (r : ℕ) → 1 ≤ endedAt (desk .ended) r .number
-      → (endedAt (desk .ended) r .step < steps) × (gapOf (desk .step) (endedAt (desk .ended) r .step) ≡ r / slots)
+      → (endedAt (desk .ended) r .step < steps) × (gapOf (desk .step) (endedAt (desk .ended) r .step) ≡ r / slotCount)
 
 -- a step's own number is no gap away, and one step on each gap is one more
 gap-same : (s : ℕ) → s < steps → gapOf s s ≡ 0
@@ -65,7 +65,7 @@ module _ (rest rows : ℕ) (enough : rest ≤ rows) (few : rows ≤ 11) (desk : 
 
   pub bar-few : length bar ≤ 220
   bar-few =
-      let e : length bar ≡ slots * rows = length-map ended (λ (e : Ended). e .number) ∙ (ended-long list (orderCount list) now (desk .places) (desk .ended) (sound .orderly .twenty) ∙ sound .kept) in
+      let e : length bar ≡ slotCount * rows = length-map ended (λ (e : Ended). e .number) ∙ (ended-long list (orderCount list) now (desk .places) (desk .ended) (sound .orderly .twenty) ∙ sound .kept) in
       omega arith
 
   -- a new order's place
@@ -165,7 +165,7 @@ module _ (rest rows : ℕ) (enough : rest ≤ rows) (few : rows ≤ 11) (desk : 
 
   -- ---- ended numbers
 
-  long : length ended ≡ slots * rows
+  long : length ended ≡ slotCount * rows
   long = ended-long list (orderCount list) now (desk .places) (desk .ended) (sound .orderly .twenty) ∙ sound .kept
 
   -- D-06: the number of an absent order is the one of its slot in the first row
@@ -178,39 +178,39 @@ module _ (rest rows : ℕ) (enough : rest ≤ rows) (few : rows ≤ 11) (desk : 
       ∙ entry-ends list (orderCount list) (placeAt (desk .places) i) now p absent))
 
   -- the others move on by a row
-  pub moves : (r : ℕ) → slots + r < slots * rows → endedAt (next .ended) (slots + r) ≡ endedAt (desk .ended) r
+  pub moves : (r : ℕ) → slotCount + r < slotCount * rows → endedAt (next .ended) (slotCount + r) ≡ endedAt (desk .ended) r
   moves r p =
-      ap (λ (l : List Ended). endedAt l (slots + r)) next-ended ∙ ended-before list (orderCount list) now (desk .places) (desk .ended) (sound .orderly .twenty) r (omega (arith, sound .kept))
+      ap (λ (l : List Ended). endedAt l (slotCount + r)) next-ended ∙ ended-before list (orderCount list) now (desk .places) (desk .ended) (sound .orderly .twenty) r (omega (arith, sound .kept))
 
   -- where an entry with a number comes from: from an order that ended in this step, by its slot, or from a row further in front
   pub data Entry (r : ℕ) : Type 0 where
-    begun : r < slots → 1 ≤ placeAt (desk .places) r .order → stands list (placeAt (desk .places) r .order) ≡ false
+    begun : r < slotCount → 1 ≤ placeAt (desk .places) r .order → stands list (placeAt (desk .places) r .order) ≡ false
         → endedAt (next .ended) r ≡ record { number = placeAt (desk .places) r .slot .number; step = next .step } → Entry r
-    moved : (q : ℕ) → r ≡ slots + q → slots + q < slots * rows → endedAt (next .ended) r ≡ endedAt (desk .ended) q → Entry r
+    moved : (q : ℕ) → r ≡ slotCount + q → slotCount + q < slotCount * rows → endedAt (next .ended) r ≡ endedAt (desk .ended) q → Entry r
 
   pub entry : (r : ℕ) → 1 ≤ endedAt (next .ended) r .number → Entry r
   unfolding stepOf
   entry r p =
-      on (ltb r (slots * rows))
+      on (ltb r (slotCount * rows))
       (λ small.
-      on (ltb r slots)
+      on (ltb r slotCount)
       (λ first.
-      let there = ended-now list (orderCount list) now (desk .places) (desk .ended) (sound .orderly .twenty) r (ltb-true r slots first) (omega (arith, sound .kept, ltb-true r (slots * rows) small)) in
+      let there = ended-now list (orderCount list) now (desk .places) (desk .ended) (sound .orderly .twenty) r (ltb-true r slotCount first) (omega (arith, sound .kept, ltb-true r (slotCount * rows) small)) in
       given (entry-only list (orderCount list) (placeAt (desk .places) r) now (subst (λ (x : Ended). 1 ≤ x .number) there p))
-      (λ (named, absent, e). begun (ltb-true r slots first) named absent (there ∙ e)))
+      (λ (named, absent, e). begun (ltb-true r slotCount first) named absent (there ∙ e)))
       (λ later.
-      let back : r ≡ slots + (r - slots) = omega (arith, ltb-false r slots later) in
-      let inside-rows : slots + (r - slots) < slots * rows = omega (arith, ltb-true r (slots * rows) small, ltb-false r slots later) in
-      moved (r - slots) back inside-rows (ap (endedAt (next .ended)) back ∙ moves (r - slots) inside-rows)))
-      (λ big. absurd (omega (arith, ap (λ (e : Ended). e .number) (List·getD-eq-default (next .ended) noneEnded {n = r} (omega (arith, long, ltb-false r (slots * rows) big))))))
+      let back : r ≡ slotCount + (r - slotCount) = omega (arith, ltb-false r slotCount later) in
+      let inside-rows : slotCount + (r - slotCount) < slotCount * rows = omega (arith, ltb-true r (slotCount * rows) small, ltb-false r slotCount later) in
+      moved (r - slotCount) back inside-rows (ap (endedAt (next .ended)) back ∙ moves (r - slotCount) inside-rows)))
+      (λ big. absurd (omega (arith, ap (λ (e : Ended). e .number) (List·getD-eq-default (next .ended) noneEnded {n = r} (omega (arith, long, ltb-false r (slotCount * rows) big))))))
 
-  next-aged : (r : ℕ) → 1 ≤ endedAt (next .ended) r .number → (endedAt (next .ended) r .step < steps) × (gapOf (next .step) (endedAt (next .ended) r .step) ≡ r / slots)
+  next-aged : (r : ℕ) → 1 ≤ endedAt (next .ended) r .number → (endedAt (next .ended) r .step < steps) × (gapOf (next .step) (endedAt (next .ended) r .step) ≡ r / slotCount)
   next-aged r p = go (entry r p)
     where
       below : next .step < steps
       below = rw next-step (omega arith)
 
-      go : Entry r → (endedAt (next .ended) r .step < steps) × (gapOf (next .step) (endedAt (next .ended) r .step) ≡ r / slots)
+      go : Entry r → (endedAt (next .ended) r .step < steps) × (gapOf (next .step) (endedAt (next .ended) r .step) ≡ r / slotCount)
       go (begun small named absent e) = rw e (below, gap-same (next .step) below ∙ omega arith)
       go (moved q back small e) =
           given (sound .aged q (subst (λ (x : Ended). 1 ≤ x .number) e p))
@@ -218,7 +218,7 @@ module _ (rest rows : ℕ) (enough : rest ≤ rows) (few : rows ≤ 11) (desk : 
           rw e (
             early,
             ap (λ n. gapOf n (endedAt (desk .ended) q .step)) next-step
-                ∙ (gap-next (desk .step) (endedAt (desk .ended) q .step) (q / slots) (sound .below) early (omega arith) age ∙ omega arith),
+                ∙ (gap-next (desk .step) (endedAt (desk .ended) q .step) (q / slotCount) (sound .below) early (omega arith) age ∙ omega arith),
           ))
 
   pub next-sound : Sound rows next
@@ -231,8 +231,8 @@ module _ (rest rows : ℕ) (enough : rest ≤ rows) (few : rows ≤ 11) (desk : 
       }
 
   -- D-12: a number that is in one of the first rows, as many as the rest, is not given
-  pub not-given : (i r x : ℕ) → 1 ≤ x → r < slots * rest → endedAt (next .ended) r .number ≡ x → Placed i (placeAt (next .places) i) → placeAt (next .places) i .slot .number ≡ x → ⊥
+  pub not-given : (i r x : ℕ) → 1 ≤ x → r < slotCount * rest → endedAt (next .ended) r .number ≡ x → Placed i (placeAt (next .places) i) → placeAt (next .places) i .slot .number ≡ x → ⊥
   unfolding stepOf
   not-given i r x p small there n same =
-      let aged : gapOf now (endedAt ended r .step) ≡ r / slots = next-aged r (omega arith) .1 in
+      let aged : gapOf now (endedAt ended r .step) ≡ r / slotCount = next-aged r (omega arith) .1 in
       clash (resting-when rest now ended x r (omega (arith, long)) there (omega arith)) (subst (λ k. isResting rest now ended k ≡ false) same (n .rested))

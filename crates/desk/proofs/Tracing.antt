@@ -11,7 +11,7 @@ use lib.ListN.{length, length-replicate}
 use native.Mathlib.Omega.{arith}
 use Rattle.kit.proofs.Cases.{on, clash, given}
 use Rattle.kit.proofs.Maps.{replicate-at}
-use Rattle.condition.specs.Slots.{codedOf, slots}
+use Rattle.condition.specs.Slots.{codedOf, slotCount}
 use Rattle.wire.specs.Steps.{steps}
 use Rattle.order_list.specs.Lists.{stands}
 use Rattle.places.specs.Places.{freePlace, placeAt, placeOf}
@@ -22,7 +22,7 @@ use Rattle.resting.specs.Rests.{noneEnded, endedAt}
 use Rattle.resting.specs.declared.Ended.{Ended}
 use Rattle.desk.specs.declared.Desk.{Desk}
 use Rattle.desk.specs.Desks.{freshWith}
-use Rattle.desk.specs.Runs.{run, Accepted, Stood, InNewest}
+use Rattle.desk.specs.Runs.{deskRun, AllAccepted, Stood, InNewest}
 use Rattle.desk.specs.Steps.{stepOf}
 use Rattle.desk.proofs.Seating.{inside, ordered}
 use Rattle.desk.proofs.Stepping.{Sound, Was, stayed, placed, free, was, keeps, live-listed, rests, moves, next-sound, not-given}
@@ -37,7 +37,7 @@ Holds desk i number order = (at desk i .slot .number ≡ number) × (at desk i .
 -- a number is in no place, and among the ended ones of the first k rows
 abbrev pub Gone : Desk → ℕ → ℕ → Type 0
 Gone desk number k =
-    ((j : ℕ) → at desk j .slot .number ≡ number → ⊥) × ((r : ℕ) × (r < slots * k) × (endedAt (desk .ended) r .number ≡ number))
+    ((j : ℕ) → at desk j .slot .number ≡ number → ⊥) × ((r : ℕ) × (r < slotCount * k) × (endedAt (desk .ended) r .number ≡ number))
 
 -- ---- one step
 
@@ -59,11 +59,11 @@ module _ (rest rows : ℕ) (enough : rest ≤ rows) (few : rows ≤ 11) (desk : 
       (rests rest rows enough few desk sound list fair (omega arith) i p (subst (λ m. stands list m ≡ false) (sym b) absent) ∙ a) n e
   ends some i (a, b) absent j (free z) e = omega (arith, ap (λ (y : Place). y .slot .number) z)
 
-  stays-away : (r : ℕ) → slots + r < slots * rest → endedAt (desk .ended) r .number ≡ x → ((j : ℕ) → at desk j .slot .number ≡ x → ⊥)
+  stays-away : (r : ℕ) → slotCount + r < slotCount * rest → endedAt (desk .ended) r .number ≡ x → ((j : ℕ) → at desk j .slot .number ≡ x → ⊥)
       → (j : ℕ) → Was rest rows enough few desk sound list fair j (at next j) → at next j .slot .number ≡ x → ⊥
   stays-away r p there away j (stayed s) e = away j (sym (s .number) ∙ e)
   stays-away r p there away j (placed n) e =
-      not-given rest rows enough few desk sound list fair j (slots + r) x positive p
+      not-given rest rows enough few desk sound list fair j (slotCount + r) x positive p
       (ap (λ (y : Ended). y .number) (moves rest rows enough few desk sound list fair r (omega arith)) ∙ there) n e
   stays-away r p there away j (free z) e = omega (arith, ap (λ (y : Place). y .slot .number) z)
 
@@ -83,7 +83,7 @@ module _ (rest rows : ℕ) (enough : rest ≤ rows) (few : rows ≤ 11) (desk : 
   pub gone-still : (k : ℕ) → k < rest → Gone desk x k → Gone next x (k + 1)
   gone-still k small (away, (r, p, there)) = (
     λ j. stays-away r (omega arith) there away j (was rest rows enough few desk sound list fair j),
-    (slots + r, omega arith, ap (λ (y : Ended). y .number) (moves rest rows enough few desk sound list fair r (omega arith)) ∙ there),
+    (slotCount + r, omega arith, ap (λ (y : Ended). y .number) (moves rest rows enough few desk sound list fair r (omega arith)) ∙ there),
   )
 
   -- one step of the trace: the order stands on with its number, or the number is gone
@@ -106,15 +106,15 @@ module _ (rest rows : ℕ) (enough : rest ≤ rows) (few : rows ≤ 11) (desk : 
 module _ (rows : ℕ) where
   pub fresh-at : (i : ℕ) → at (freshWith rows) i ≡ freePlace
   unfolding freshWith
-  fresh-at i = replicate-at slots i freePlace
+  fresh-at i = replicate-at slotCount i freePlace
 
   pub fresh-ended : (r : ℕ) → endedAt (freshWith rows .ended) r ≡ noneEnded
   unfolding freshWith
-  fresh-ended r = replicate-at (slots * rows) r noneEnded
+  fresh-ended r = replicate-at (slotCount * rows) r noneEnded
 
-  fresh-long : (length (freshWith rows .places) ≡ slots) × (length (freshWith rows .ended) ≡ slots * rows) × (freshWith rows .step < steps)
+  fresh-long : (length (freshWith rows .places) ≡ slotCount) × (length (freshWith rows .ended) ≡ slotCount * rows) × (freshWith rows .step < steps)
   unfolding freshWith
-  fresh-long = (refl, length-replicate (slots * rows) noneEnded, omega arith)
+  fresh-long = (refl, length-replicate (slotCount * rows) noneEnded, omega arith)
 
   pub fresh-sound : Sound rows (freshWith rows)
   fresh-sound =
@@ -136,110 +136,110 @@ module _ (rows : ℕ) where
 -- ---- a run of steps
 
 -- a fresh desk, and one list more
-pub run-none : (rest rows : ℕ) → run rest rows [] ≡ freshWith rows
-unfolding run
+pub run-none : (rest rows : ℕ) → deskRun rest rows [] ≡ freshWith rows
+unfolding deskRun
 run-none rest rows = refl
 
-pub run-more : (rest rows : ℕ) (l : List ℕ) (h : List (List ℕ)) → run rest rows (l ∷ h) ≡ stepOf rest (run rest rows h) l
-unfolding run
+pub run-more : (rest rows : ℕ) (l : List ℕ) (h : List (List ℕ)) → deskRun rest rows (l ∷ h) ≡ stepOf rest (deskRun rest rows h) l
+unfolding deskRun
 run-more rest rows l h = refl
 
 module _ (rest rows : ℕ) (enough : rest ≤ rows) (few : rows ≤ 11) where
-  pub run-sound : (h : List (List ℕ)) → Accepted rest rows h → Sound rows (run rest rows h)
-  unfolding run
+  pub run-sound : (h : List (List ℕ)) → AllAccepted rest rows h → Sound rows (deskRun rest rows h)
+  unfolding deskRun
   run-sound [] a = fresh-sound rows
-  run-sound (l ∷ h) (p, a) = next-sound rest rows enough few (run rest rows h) (run-sound h a) l (fair (run rest rows h .places) l p)
+  run-sound (l ∷ h) (p, a) = next-sound rest rows enough few (deskRun rest rows h) (run-sound h a) l (fair (deskRun rest rows h .places) l p)
 
   -- D-03: the step number counts the accepted lists, around 8,192
-  pub run-step : (h : List (List ℕ)) → run rest rows h .step ≡ length h % steps
-  unfolding run stepOf freshWith
+  pub run-step : (h : List (List ℕ)) → deskRun rest rows h .step ≡ length h % steps
+  unfolding deskRun stepOf freshWith
   run-step [] = refl
   run-step (l ∷ h) = rw (run-step h) (omega arith)
 
   -- the earlier part of an accepted run is accepted
-  pub older : (ls h : List (List ℕ)) → Accepted rest rows (ls ++ h) → Accepted rest rows h
+  pub older : (ls h : List (List ℕ)) → AllAccepted rest rows (ls ++ h) → AllAccepted rest rows h
   older [] h a = a
   older (l ∷ ls) h (q, a) = older ls h a
 
   -- an order with a number, and what becomes of the two in as many steps as the rest or fewer
-  pub trace : (ls h : List (List ℕ)) (i x o : ℕ) → 1 ≤ x → Accepted rest rows (ls ++ h) → length ls ≤ rest → Holds (run rest rows h) i x o
-      → (Stood o ls × Holds (run rest rows (ls ++ h)) i x o) ⊎ Gone (run rest rows (ls ++ h)) x (length ls)
-  unfolding run
+  pub trace : (ls h : List (List ℕ)) (i x o : ℕ) → 1 ≤ x → AllAccepted rest rows (ls ++ h) → length ls ≤ rest → Holds (deskRun rest rows h) i x o
+      → (Stood o ls × Holds (deskRun rest rows (ls ++ h)) i x o) ⊎ Gone (deskRun rest rows (ls ++ h)) x (length ls)
+  unfolding deskRun
   trace [] h i x o p a n held = inl (tt, held)
   trace (l ∷ ls) h i x o p (q, a) n held =
       let e : length ls + 1 ≡ length (l ∷ ls) = omega arith in
-      subst (λ k. (Stood o (l ∷ ls) × Holds (run rest rows (l ∷ ls ++ h)) i x o) ⊎ Gone (run rest rows (l ∷ ls ++ h)) x k) e
-      (trace-one rest rows enough few (run rest rows (ls ++ h)) (run-sound (ls ++ h) a) l (fair (run rest rows (ls ++ h) .places) l q) x o p i (length ls)
+      subst (λ k. (Stood o (l ∷ ls) × Holds (deskRun rest rows (l ∷ ls ++ h)) i x o) ⊎ Gone (deskRun rest rows (l ∷ ls ++ h)) x k) e
+      (trace-one rest rows enough few (deskRun rest rows (ls ++ h)) (run-sound (ls ++ h) a) l (fair (deskRun rest rows (ls ++ h) .places) l q) x o p i (length ls)
       (Stood o ls) (omega arith) (trace ls h i x o p a (omega arith) held))
 
-  gone-after : (ls h : List (List ℕ)) (l : List ℕ) (i : ℕ) → Accepted rest rows (ls ++ (l ∷ h)) → length ls < rest
-      → 1 ≤ at (run rest rows h) i .order → stands l (at (run rest rows h) i .order) ≡ false
-      → Gone (run rest rows (ls ++ (l ∷ h))) (at (run rest rows h) i .slot .number) (length ls + 1)
-  unfolding run
+  gone-after : (ls h : List (List ℕ)) (l : List ℕ) (i : ℕ) → AllAccepted rest rows (ls ++ (l ∷ h)) → length ls < rest
+      → 1 ≤ at (deskRun rest rows h) i .order → stands l (at (deskRun rest rows h) i .order) ≡ false
+      → Gone (deskRun rest rows (ls ++ (l ∷ h))) (at (deskRun rest rows h) i .slot .number) (length ls + 1)
+  unfolding deskRun
   gone-after [] h l i (q, a) n p absent =
-      let s : Sound rows (run rest rows h) = run-sound h a in
-      gone-now rest rows enough few (run rest rows h) s l (fair (run rest rows h .places) l q) (at (run rest rows h) i .slot .number)
-      (at (run rest rows h) i .order) (s .orderly .numbered i p .0) n i (refl, refl) absent
+      let s : Sound rows (deskRun rest rows h) = run-sound h a in
+      gone-now rest rows enough few (deskRun rest rows h) s l (fair (deskRun rest rows h .places) l q) (at (deskRun rest rows h) i .slot .number)
+      (at (deskRun rest rows h) i .order) (s .orderly .numbered i p .0) n i (refl, refl) absent
   gone-after (m ∷ ls) h l i (q, a) n p absent =
-      let s : Sound rows (run rest rows (ls ++ (l ∷ h))) = run-sound (ls ++ (l ∷ h)) a in
-      let first : Accepted rest rows h = older ls (l ∷ h) a .1 in
+      let s : Sound rows (deskRun rest rows (ls ++ (l ∷ h))) = run-sound (ls ++ (l ∷ h)) a in
+      let first : AllAccepted rest rows h = older ls (l ∷ h) a .1 in
       let e : length ls + 1 + 1 ≡ length (m ∷ ls) + 1 = omega arith in
-      subst (λ k. Gone (run rest rows (m ∷ ls ++ (l ∷ h))) (at (run rest rows h) i .slot .number) k) e
-      (gone-still rest rows enough few (run rest rows (ls ++ (l ∷ h))) s m (fair (run rest rows (ls ++ (l ∷ h)) .places) m q) (at (run rest rows h) i .slot .number)
-      (at (run rest rows h) i .order) (run-sound h first .orderly .numbered i p .0) (length ls + 1) (omega arith) (gone-after ls h l i a (omega arith) p absent))
+      subst (λ k. Gone (deskRun rest rows (m ∷ ls ++ (l ∷ h))) (at (deskRun rest rows h) i .slot .number) k) e
+      (gone-still rest rows enough few (deskRun rest rows (ls ++ (l ∷ h))) s m (fair (deskRun rest rows (ls ++ (l ∷ h)) .places) m q) (at (deskRun rest rows h) i .slot .number)
+      (at (deskRun rest rows h) i .order) (run-sound h first .orderly .numbered i p .0) (length ls + 1) (omega arith) (gone-after ls h l i a (omega arith) p absent))
 
   -- D-12, D-13: a number whose order ends in a step is in no table from that step on, as many tables in a row as the rest
-  pub rested : (ls h : List (List ℕ)) (l : List ℕ) (i j : ℕ) → Accepted rest rows (ls ++ (l ∷ h)) → length ls < rest
-      → 1 ≤ at (run rest rows h) i .order → stands l (at (run rest rows h) i .order) ≡ false
-      → at (run rest rows (ls ++ (l ∷ h))) j .slot .number ≡ at (run rest rows h) i .slot .number → ⊥
+  pub rested : (ls h : List (List ℕ)) (l : List ℕ) (i j : ℕ) → AllAccepted rest rows (ls ++ (l ∷ h)) → length ls < rest
+      → 1 ≤ at (deskRun rest rows h) i .order → stands l (at (deskRun rest rows h) i .order) ≡ false
+      → at (deskRun rest rows (ls ++ (l ∷ h))) j .slot .number ≡ at (deskRun rest rows h) i .slot .number → ⊥
   rested ls h l i j a n p absent same =
       given (gone-after ls h l i a n p absent) (λ (away, there). away j same)
 
   -- the same number in two tables at most as many steps apart as the rest: one order, in one slot, that stood in every list between
-  pub same-number : (ls h : List (List ℕ)) (i j : ℕ) → Accepted rest rows (ls ++ h) → length ls ≤ rest → 1 ≤ at (run rest rows h) i .slot .number
-      → at (run rest rows (ls ++ h)) j .slot .number ≡ at (run rest rows h) i .slot .number
-      → Stood (at (run rest rows h) i .order) ls × (i ≡ j) × (at (run rest rows (ls ++ h)) j .order ≡ at (run rest rows h) i .order)
-  same-number ls h i j a n p same = go (trace ls h i (at (run rest rows h) i .slot .number) (at (run rest rows h) i .order) p a n (refl, refl))
+  pub same-number : (ls h : List (List ℕ)) (i j : ℕ) → AllAccepted rest rows (ls ++ h) → length ls ≤ rest → 1 ≤ at (deskRun rest rows h) i .slot .number
+      → at (deskRun rest rows (ls ++ h)) j .slot .number ≡ at (deskRun rest rows h) i .slot .number
+      → Stood (at (deskRun rest rows h) i .order) ls × (i ≡ j) × (at (deskRun rest rows (ls ++ h)) j .order ≡ at (deskRun rest rows h) i .order)
+  same-number ls h i j a n p same = go (trace ls h i (at (deskRun rest rows h) i .slot .number) (at (deskRun rest rows h) i .order) p a n (refl, refl))
     where
-      go : (Stood (at (run rest rows h) i .order) ls × Holds (run rest rows (ls ++ h)) i (at (run rest rows h) i .slot .number) (at (run rest rows h) i .order))
-          ⊎ Gone (run rest rows (ls ++ h)) (at (run rest rows h) i .slot .number) (length ls)
-          → Stood (at (run rest rows h) i .order) ls × (i ≡ j) × (at (run rest rows (ls ++ h)) j .order ≡ at (run rest rows h) i .order)
+      go : (Stood (at (deskRun rest rows h) i .order) ls × Holds (deskRun rest rows (ls ++ h)) i (at (deskRun rest rows h) i .slot .number) (at (deskRun rest rows h) i .order))
+          ⊎ Gone (deskRun rest rows (ls ++ h)) (at (deskRun rest rows h) i .slot .number) (length ls)
+          → Stood (at (deskRun rest rows h) i .order) ls × (i ≡ j) × (at (deskRun rest rows (ls ++ h)) j .order ≡ at (deskRun rest rows h) i .order)
       go (inl (stood, (number, order))) =
           given (run-sound (ls ++ h) a .orderly .apart i j (omega arith) (number ∙ sym same))
-          (λ q. (stood, q, ap (λ k. at (run rest rows (ls ++ h)) k .order) (sym q) ∙ order))
+          (λ q. (stood, q, ap (λ k. at (deskRun rest rows (ls ++ h)) k .order) (sym q) ∙ order))
       go (inr (away, there)) = absurd (away j same)
 
   -- an order that stands on keeps slot, number and type
-  pub persists : (ls h : List (List ℕ)) (i : ℕ) → Accepted rest rows (ls ++ h) → 1 ≤ at (run rest rows h) i .order → Stood (at (run rest rows h) i .order) ls
-      → (at (run rest rows (ls ++ h)) i .slot .number ≡ at (run rest rows h) i .slot .number)
-      × (at (run rest rows (ls ++ h)) i .order ≡ at (run rest rows h) i .order)
-      × (codedOf (at (run rest rows (ls ++ h)) i .slot) .kind ≡ codedOf (at (run rest rows h) i .slot) .kind)
-  unfolding run
+  pub persists : (ls h : List (List ℕ)) (i : ℕ) → AllAccepted rest rows (ls ++ h) → 1 ≤ at (deskRun rest rows h) i .order → Stood (at (deskRun rest rows h) i .order) ls
+      → (at (deskRun rest rows (ls ++ h)) i .slot .number ≡ at (deskRun rest rows h) i .slot .number)
+      × (at (deskRun rest rows (ls ++ h)) i .order ≡ at (deskRun rest rows h) i .order)
+      × (codedOf (at (deskRun rest rows (ls ++ h)) i .slot) .kind ≡ codedOf (at (deskRun rest rows h) i .slot) .kind)
+  unfolding deskRun
   persists [] h i a p s = (refl, refl, refl)
   persists (l ∷ ls) h i (q, a) p (m, s) =
       given (persists ls h i a p s)
       (λ (number, order, kind).
       given
-      (keeps rest rows enough few (run rest rows (ls ++ h)) (run-sound (ls ++ h) a) l (fair (run rest rows (ls ++ h) .places) l q) i (omega (arith, order))
+      (keeps rest rows enough few (deskRun rest rows (ls ++ h)) (run-sound (ls ++ h) a) l (fair (deskRun rest rows (ls ++ h) .places) l q) i (omega (arith, order))
       (rw order m))
       (λ z. (z .number ∙ number, z .order ∙ order, z .kind ∙ kind)))
 
   -- the live orders are those of the newest list
-  pub live-newest : (h : List (List ℕ)) (i : ℕ) → Accepted rest rows h → 1 ≤ at (run rest rows h) i .order → InNewest (at (run rest rows h) i .order) h
-  unfolding run
+  pub live-newest : (h : List (List ℕ)) (i : ℕ) → AllAccepted rest rows h → 1 ≤ at (deskRun rest rows h) i .order → InNewest (at (deskRun rest rows h) i .order) h
+  unfolding deskRun
   live-newest [] i a p = omega (arith, rw fresh-at at p)
   live-newest (l ∷ h) i (q, a) p =
-      let s : Sound rows (run rest rows h) = run-sound h a in
-      let t : Sound rows (run rest rows (l ∷ h)) = run-sound (l ∷ h) (q, a) in
-      sym (live-listed rest rows enough few (run rest rows h) s l (fair (run rest rows h .places) l q) (at (run rest rows (l ∷ h)) i .order) p)
-      ∙ live-when (run rest rows (l ∷ h) .places) (at (run rest rows (l ∷ h)) i .order) i (inside (t .orderly) i p) refl
+      let s : Sound rows (deskRun rest rows h) = run-sound h a in
+      let t : Sound rows (deskRun rest rows (l ∷ h)) = run-sound (l ∷ h) (q, a) in
+      sym (live-listed rest rows enough few (deskRun rest rows h) s l (fair (deskRun rest rows h .places) l q) (at (deskRun rest rows (l ∷ h)) i .order) p)
+      ∙ live-when (deskRun rest rows (l ∷ h) .places) (at (deskRun rest rows (l ∷ h)) i .order) i (inside (t .orderly) i p) refl
 
-  pub newest-live : (h : List (List ℕ)) (o : ℕ) → Accepted rest rows h → 1 ≤ o → InNewest o h
-      → (i : ℕ) × (i < slots) × (at (run rest rows h) i .order ≡ o)
-  unfolding run
+  pub newest-live : (h : List (List ℕ)) (o : ℕ) → AllAccepted rest rows h → 1 ≤ o → InNewest o h
+      → (i : ℕ) × (i < slotCount) × (at (deskRun rest rows h) i .order ≡ o)
+  unfolding deskRun
   newest-live [] o a p n = absurd n
   newest-live (l ∷ h) o (q, a) p n =
       given
-      (live-there (run rest rows (l ∷ h) .places) o
-      (live-listed rest rows enough few (run rest rows h) (run-sound h a) l (fair (run rest rows h .places) l q) o p ∙ n))
-      (λ (small, same). (placeOf (run rest rows (l ∷ h) .places) o, small, same))
+      (live-there (deskRun rest rows (l ∷ h) .places) o
+      (live-listed rest rows enough few (deskRun rest rows h) (run-sound h a) l (fair (deskRun rest rows h .places) l q) o p ∙ n))
+      (λ (small, same). (placeOf (deskRun rest rows (l ∷ h) .places) o, small, same))

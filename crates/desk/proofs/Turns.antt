@@ -15,7 +15,7 @@ use Rattle.kit.proofs.Cases.{on, clash, given}
 use Rattle.kit.proofs.Loops.{fold-none, fold-more}
 use Rattle.order_list.specs.Lists.{stands, orderAt, orderCount}
 use Rattle.places.specs.Places.{freePlace, placeAt, placeOf, lowestFree, isLive}
-use Rattle.condition.specs.Slots.{slots}
+use Rattle.condition.specs.Slots.{slotCount}
 use Rattle.places.specs.declared.Place.{Place}
 use Rattle.order_list.proofs.Listed.{listed-when}
 use Rattle.places.proofs.Live.{live-there, live-when, free-there}
@@ -23,7 +23,7 @@ use Rattle.orders.proofs.Lists.{Fair, fair}
 use Rattle.resting.specs.Rests.{isResting}
 use Rattle.numbers.specs.Numbers.{hasNumber, isPermitted, nextNumber, numberAfter}
 use Rattle.numbers.proofs.Search.{number-first, number-some}
-use Rattle.desk.specs.Runs.{run, Accepted, EndedAgo, OneNew}
+use Rattle.desk.specs.Runs.{deskRun, AllAccepted, EndedAgo, OneNew}
 use Rattle.desk.specs.Steps.{keptPlace, stepOf, nextStep, endedNumbers}
 use Rattle.desk.specs.declared.Desk.{Desk}
 use Rattle.arriving.specs.Arriving.{seated, seatedAll}
@@ -56,9 +56,9 @@ module _ (resting : ℕ → Bool) (list : List ℕ) (start : Seats) (j : ℕ) (o
       ∙ (fold-more turn start m
       ∙ (ap (turn m) (until m (omega arith)) ∙ seated-live resting (orderAt list m) start (one .others m (omega (arith, one .inlist)) (λ z. omega arith))))
 
-  room : lowestFree (start .places) < slots
+  room : lowestFree (start .places) < slotCount
   unfolding seatedAll
-  room = subst (λ (s : Seats). isLive (s .places) (orderAt list j .number) ≡ false → lowestFree (s .places) < slots) (until j (omega arith)) (rooms j (one .inlist)) (one .new)
+  room = subst (λ (s : Seats). isLive (s .places) (orderAt list j .number) ≡ false → lowestFree (s .places) < slotCount) (until j (omega arith)) (rooms j (one .inlist)) (one .new)
 
   -- the others are live after it
   still : (k : ℕ) → k < orderCount list → (k ≡ j → ⊥) → isLive (done .places) (orderAt list k .number) ≡ true
@@ -126,7 +126,7 @@ module _ {old : List Place} (o : Orderly old) {list : List ℕ} (f : Fair old li
             ∙ same));
       }
     where
-      back : (i : ℕ) → Stayed o f i (placeAt kept i) ⊎ (placeAt kept i ≡ freePlace) → i < slots → placeAt kept i .order ≡ orderAt list j .number
+      back : (i : ℕ) → Stayed o f i (placeAt kept i) ⊎ (placeAt kept i ≡ freePlace) → i < slotCount → placeAt kept i .order ≡ orderAt list j .number
           → 1 ≤ orderAt list j .number → ⊥
       back i (inl s) small same p = clash (live-when old (orderAt list j .number) i small (sym (s .order) ∙ same)) (one .new)
       back i (inr z) small same p = omega (arith, rw z at same)
@@ -134,19 +134,19 @@ module _ {old : List Place} (o : Orderly old) {list : List ℕ} (f : Fair old li
 -- ---- P5
 
 module _ (rest rows : ℕ) (enough : rest ≤ rows) (few : rows ≤ 11)
-    (h : List (List ℕ)) (ending : List ℕ) (i : ℕ) (was : 1 ≤ at (run rest rows h) i .order)
-    (ended : stands ending (at (run rest rows h) i .order) ≡ false)
-    (between : List (List ℕ)) (list : List ℕ) (accepted : Accepted rest rows (list ∷ (between ++ (ending ∷ h)))) where
+    (h : List (List ℕ)) (ending : List ℕ) (i : ℕ) (was : 1 ≤ at (deskRun rest rows h) i .order)
+    (ended : stands ending (at (deskRun rest rows h) i .order) ≡ false)
+    (between : List (List ℕ)) (list : List ℕ) (accepted : AllAccepted rest rows (list ∷ (between ++ (ending ∷ h)))) where
   -- the number that ended, in step f
   abbrev number : ℕ
-  number = at (run rest rows h) i .slot .number
+  number = at (deskRun rest rows h) i .slot .number
 
   -- the desk before the new order comes, and after
   abbrev before : Desk
-  before = run rest rows (between ++ (ending ∷ h))
+  before = deskRun rest rows (between ++ (ending ∷ h))
 
   abbrev after : Desk
-  after = run rest rows (list ∷ (between ++ (ending ∷ h)))
+  after = deskRun rest rows (list ∷ (between ++ (ending ∷ h)))
 
   -- up to step f + rest - 1 it is passed over: no order of the table has it
   pub passed-over : length between + 1 < rest → (k : ℕ) → at after k .slot .number ≡ number → ⊥
@@ -156,7 +156,7 @@ module _ (rest rows : ℕ) (enough : rest ≤ rows) (few : rows ≤ 11)
   positive = run-sound rest rows enough few h (older rest rows enough few between (ending ∷ h) (accepted .1) .1) .orderly .numbered i was .0
 
   -- while it rests it can neither be live nor end again
-  not-again : (ls : List (List ℕ)) (k : ℕ) → Accepted rest rows (ls ++ (ending ∷ h)) → length ls ≤ rest → k < length ls → EndedAgo rest rows (ls ++ (ending ∷ h)) number k → ⊥
+  not-again : (ls : List (List ℕ)) (k : ℕ) → AllAccepted rest rows (ls ++ (ending ∷ h)) → length ls ≤ rest → k < length ls → EndedAgo rest rows (ls ++ (ending ∷ h)) number k → ⊥
   not-again [] k a small p e = omega arith
   not-again (l ∷ ls) zero (q, a) small p (m, named, same, absent) = rested rest rows enough few ls h ending i m a (omega arith) was ended same
   not-again (l ∷ ls) (suc k) (q, a) small p e = not-again ls k a (omega arith) (omega arith) e
@@ -176,7 +176,7 @@ module _ (rest rows : ℕ) (enough : rest ≤ rows) (few : rows ≤ 11)
     kept-now = map (keptPlace list) (before .places)
 
     rests-no-more : resting number ≡ false
-    unfolding run stepOf
+    unfolding deskRun stepOf
     rests-no-more =
         on (resting number)
         (λ e.
@@ -202,12 +202,12 @@ module _ (rest rows : ℕ) (enough : rest ≤ rows) (few : rows ≤ 11)
 
     -- it is the last one given, and the lowest free slot has it
     pub given-again : (after .last ≡ number) × (at after (lowestFree kept-now) .slot .number ≡ number) × (at after (lowestFree kept-now) .order ≡ orderAt list j .number)
-    unfolding run stepOf
+    unfolding deskRun stepOf
     given-again =
         let rooms = next-room rest rows enough few before s list f in
         let first : Seats = record { places = kept-now; last = before .last } in
         let e = one-placed resting list first j (one-kept (s .orderly) f one) (f .named) rooms in
-        let spare : lowestFree kept-now < slots = room resting list first j (one-kept (s .orderly) f one) (f .named) rooms in
+        let spare : lowestFree kept-now < slotCount = room resting list first j (one-kept (s .orderly) f one) (f .named) rooms in
         let there =
         getD-set-same kept-now (lowestFree kept-now) (newPlace resting (orderAt list j) first) freePlace (omega (arith, kept-orderly (s .orderly) f .twenty)) in (
           ap (λ (x : Seats). x .last) e ∙ gets,

@@ -10,7 +10,7 @@ use Rattle.telegram.specs.Tables.{fourOf}
 use Rattle.telegram.specs.declared.Telegram.{Telegram}
 use Rattle.places.specs.Places.{freePlace}
 use Rattle.orders.specs.Orders.{listRefusal}
-use Rattle.condition.specs.Slots.{slots}
+use Rattle.condition.specs.Slots.{slotCount}
 use Rattle.places.specs.declared.Place.{Place}
 use Rattle.resting.specs.Rests.{noneEnded}
 use Rattle.desk.specs.declared.Desk.{Desk}
@@ -18,16 +18,16 @@ use Rattle.desk.specs.declared.Answer.{Answer}
 use Rattle.desk.specs.Steps.{stepOf}
 
 -- D-12, D-13: eight tables in a row go without an ended number
-abbrev pub rest : ℕ
-rest = 8
+abbrev pub baseRest : ℕ
+baseRest = 8
 
 -- D-04, D-11: step 0, all slots empty, nothing ended and no number given; D-14: a desk keeps so many rows of twenty ended numbers
 unfoldable pub freshWith : ℕ → Desk
-freshWith rows = record { places = replicate slots freePlace; ended = replicate (slots * rows) noneEnded; last = 0; step = 0 }
+freshWith rows = record { places = replicate slotCount freePlace; ended = replicate (slotCount * rows) noneEnded; last = 0; step = 0 }
 
 -- D-12: as many rows as an ended number rests; D-05: it is a desk like any other, and its table is written as theirs are
 abbrev pub freshDesk : Desk
-freshDesk = freshWith rest
+freshDesk = freshWith baseRest
 
 -- M-1a, D-02, D-18: refused with the desk as it was, or accepted with the desk after the step; D-17: no row refuses an empty list, and
 -- no order stands in it
@@ -41,10 +41,10 @@ unfoldable pub tableOf : Desk → List Slot
 tableOf desk = map (λ (place : Place). place .slot) (desk .places)
 
 -- T-01 to T-04: the telegram of a packet of the table
-unfoldable pub telegramOf : Desk → ℕ → Telegram
-telegramOf desk packet = record { packet = packet; step = desk .step; slots = fourOf (tableOf desk) packet }
+unfoldable pub packetOf : Desk → ℕ → Telegram
+packetOf desk packet = record { packet = packet; step = desk .step; slots = fourOf (tableOf desk) packet }
 
 -- R-26: a desk that a making and earlier calls gave
 pub data Made : Desk → Type 0 where
   made : Made freshDesk
-  called : {desk : Desk} → Made desk → (list : List ℕ) → Made (acceptOf rest desk list .desk)
+  called : {desk : Desk} → Made desk → (list : List ℕ) → Made (acceptOf baseRest desk list .desk)

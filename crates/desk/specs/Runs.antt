@@ -13,14 +13,14 @@ use Rattle.desk.specs.Desks.{freshWith}
 use Rattle.desk.specs.Steps.{stepOf}
 
 -- D-02: the desk after these lists, which keeps so many rows of ended numbers
-unfoldable pub run : ℕ → ℕ → List (List ℕ) → Desk
-run rest rows [] = freshWith rows
-run rest rows (list ∷ earlier) = stepOf rest (run rest rows earlier) list
+unfoldable pub deskRun : ℕ → ℕ → List (List ℕ) → Desk
+deskRun rest rows [] = freshWith rows
+deskRun rest rows (list ∷ earlier) = stepOf rest (deskRun rest rows earlier) list
 
 -- D-02: each of the lists is accepted when its turn comes
-abbrev pub Accepted : ℕ → ℕ → List (List ℕ) → Type 0
-Accepted rest rows [] = Unit
-Accepted rest rows (list ∷ earlier) = (listRefusal (run rest rows earlier .places) list ≡ 0) × Accepted rest rows earlier
+abbrev pub AllAccepted : ℕ → ℕ → List (List ℕ) → Type 0
+AllAccepted rest rows [] = Unit
+AllAccepted rest rows (list ∷ earlier) = (listRefusal (deskRun rest rows earlier .places) list ≡ 0) × AllAccepted rest rows earlier
 
 -- M-3c: an order stood in each of the lists
 abbrev pub Stood : ℕ → List (List ℕ) → Type 0
@@ -36,7 +36,7 @@ InNewest order (list ∷ earlier) = stands list order ≡ true
 abbrev pub EndedAgo : ℕ → ℕ → List (List ℕ) → ℕ → ℕ → Type 0
 EndedAgo rest rows [] number ago = ⊥
 EndedAgo rest rows (list ∷ earlier) number zero =
-    let before = run rest rows earlier .places in
+    let before = deskRun rest rows earlier .places in
     (i : ℕ) × (1 ≤ placeAt before i .order) × (placeAt before i .slot .number ≡ number) × (stands list (placeAt before i .order) ≡ false)
 EndedAgo rest rows (list ∷ earlier) number (suc ago) = EndedAgo rest rows earlier number ago
 

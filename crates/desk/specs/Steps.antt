@@ -6,17 +6,17 @@
 --   D-02  an accepted list makes one step: `acceptOf` (Desks.antt), `stepOf`
 --   D-03  the step number rises by one, 8,191 is followed by 0: `nextStep`, `steps` (wire/specs/Steps.antt)
 --   D-04  a fresh desk is at step 0 with all slots empty: `freshWith` (Desks.antt), `freePlace` (places/specs/Places.antt)
---   D-05  its table is one like any other, and counts as that of an empty list: `tableOf`, `telegramOf` (Desks.antt); `InNewest` (Runs.antt)
---   D-06  an order absent has ended and its slot is free: `ends`, `keptPlace` (leaving/specs/Leaving.antt)
---   D-07  an order present keeps slot and number and takes the new words: `keptPlace`, `bodyIn` (leaving/specs/Leaving.antt)
+--   D-05  its table is one like any other, and counts as that of an empty list: `tableOf`, `packetOf` (Desks.antt); `InNewest` (Runs.antt)
+--   D-06  an order absent has ended and its slot is free: `ends`, `keptAmong` (leaving/specs/Leaving.antt)
+--   D-07  an order present keeps slot and number and takes the new words: `keptAmong`, `bodyIn` (leaving/specs/Leaving.antt)
 --   D-08  new orders, in list order, take the lowest free slot: `seated`, `seatedAll` (arriving/specs/Arriving.antt), `lowestFree`
 --         (places/specs/Places.antt)
 --   D-09  and the first permitted number after the last one given: `seated`, `nextNumber` (numbers/specs/Numbers.antt)
 --   D-10  255 is followed by 1, 0 is never given: `numberAfter` (numbers/specs/Numbers.antt)
 --   D-11  a fresh desk gives 1 first: `numberAfter` of the last number 0, which `freshWith` (Desks.antt) has
---   D-12  which numbers are permitted: `isPermitted` (numbers/specs/Numbers.antt), `isResting` (resting/specs/Rests.antt), `endedNumbers`
+--   D-12  which numbers are permitted: `isPermitted` (numbers/specs/Numbers.antt), `isResting` (resting/specs/Rests.antt), `endedAmong`
 --         (leaving/specs/Leaving.antt); of the lists themselves `EndedAgo` (Runs.antt)
---   D-13  eight tables in a row go without an ended number: `rest` (Desks.antt)
+--   D-13  eight tables in a row go without an ended number: `baseRest` (Desks.antt)
 --   D-14  at most 160 rest at once: a fresh desk keeps so many entries, `freshDesk` (Desks.antt), and so does every step
 --   D-15  a permitted number always exists: a theorem on `nextNumber` (numbers/proofs/Search.antt); there is no answer that says none
 --   D-16  an order that ends and comes back is new: `seated` (arriving/specs/Arriving.antt), which asks only who is live
@@ -43,15 +43,15 @@ nextStep step = (step + 1) % steps
 
 -- D-06, D-07: the order of this place is in the list
 abbrev pub stays : List ℕ → Place → Bool
-stays list place = Leaving.stays list (orderCount list) place
+stays list place = Leaving.staysAmong list (orderCount list) place
 
 -- D-06, D-07: what becomes of a place
 abbrev pub keptPlace : List ℕ → Place → Place
-keptPlace list = Leaving.keptPlace list (orderCount list)
+keptPlace list = Leaving.keptAmong list (orderCount list)
 
 -- A-05, A-40: the numbers that have ended
 abbrev pub endedNumbers : List ℕ → ℕ → List Place → List Ended → List Ended
-endedNumbers list = Leaving.endedNumbers list (orderCount list)
+endedNumbers list = Leaving.endedAmong list (orderCount list)
 
 -- ---- the step
 

@@ -4,7 +4,7 @@ use places::Place;
 use resting::Ended;
 use wire::Verdict;
 ghost use mathlib.Core.Path.{_≡_};
-ghost use Rattle.desk.specs.Desks.{rest, freshDesk, acceptOf, Made};
+ghost use Rattle.desk.specs.Desks.{baseRest, freshDesk, acceptOf, Made};
 
 // The ended numbers stand by the step in which they ended, the newest first, and within a step by slot.
 pub struct Desk {
@@ -47,7 +47,7 @@ impl Desk {
     // Takes the whole list of orders now in force, any bytes of any length: one step, or a refusal that changes nothing.
     pub fn accept(self, list: &[u8]) -> Answer
         requires { ⌜ Made self ⌝ }
-        ensures { λ r. ⌜ r ≡ acceptOf rest self (now (list .entry)) ⌝ }
+        ensures { λ r. ⌜ r ≡ acceptOf baseRest self (now (list .entry)) ⌝ }
     {
         let before = self.places;
         let refusal = orders::refusal_of(before, list);

@@ -10,35 +10,35 @@ use Rattle.text.specs.Words.{refusedWord}
 use Rattle.text.proofs.Numerals.{decimal-short, decimal-byte}
 use Rattle.telegram.specs.Telegrams.{bytesOf}
 use Rattle.telegram.proofs.Wire.{length-bytes}
-use Rattle.desk.specs.Desks.{telegramOf}
+use Rattle.desk.specs.Desks.{packetOf}
 use Rattle.desk.specs.declared.Desk.{Desk}
-use Rattle.desk_output.specs.Outputs.{tableBytes, atListWords, refusedLine, shortLine}
+use Rattle.desk_output.specs.Outputs.{fiveTelegrams, atListWords, refusedListLine, shortListLine}
 
 -- W-03: five telegrams of 26 bytes
-pub table-long : (desk : Desk) → length (tableBytes desk) ≡ 130
-unfolding tableBytes
+pub table-long : (desk : Desk) → length (fiveTelegrams desk) ≡ 130
+unfolding fiveTelegrams
 table-long desk =
-    let three = bytesOf (telegramOf desk 3) in
-    let four = bytesOf (telegramOf desk 4) in
-    let five = bytesOf (telegramOf desk 5) in
-    let six = bytesOf (telegramOf desk 6) in
-    let seven = bytesOf (telegramOf desk 7) in
+    let three = bytesOf (packetOf desk 3) in
+    let four = bytesOf (packetOf desk 4) in
+    let five = bytesOf (packetOf desk 5) in
+    let six = bytesOf (packetOf desk 6) in
+    let seven = bytesOf (packetOf desk 7) in
     omega (
       arith,
       length-append three (four ++ (five ++ (six ++ seven))),
       length-append four (five ++ (six ++ seven)),
       length-append five (six ++ seven),
       length-append six seven,
-      length-bytes (telegramOf desk 3),
-      length-bytes (telegramOf desk 4),
-      length-bytes (telegramOf desk 5),
-      length-bytes (telegramOf desk 6),
-      length-bytes (telegramOf desk 7),
+      length-bytes (packetOf desk 3),
+      length-bytes (packetOf desk 4),
+      length-bytes (packetOf desk 5),
+      length-bytes (packetOf desk 6),
+      length-bytes (packetOf desk 7),
     )
 
 -- a refusal's number is a byte, and the lists are counted in 64 bits
-pub refused-short : (number list : ℕ) → number < 256 → list < 10 ^ 20 → length (refusedLine number list) ≤ 64
-unfolding refusedLine
+pub refused-short : (number list : ℕ) → number < 256 → list < 10 ^ 20 → length (refusedListLine number list) ≤ 64
+unfolding refusedListLine
 refused-short number list small counted =
     omega (
       arith,
@@ -50,6 +50,6 @@ refused-short number list small counted =
       decimal-short 20 list counted (omega arith),
     )
 
-pub short-long : length shortLine ≡ 11
-unfolding shortLine
+pub short-long : length shortListLine ≡ 11
+unfolding shortListLine
 short-long = refl

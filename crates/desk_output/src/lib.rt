@@ -6,7 +6,7 @@ use telegram::Telegram;
 ghost use Prim.Native.Nat.{_≤_};
 ghost use Rattle.kit.specs.Put.{Poured};
 ghost use Rattle.telegram.specs.Telegrams.{bytesOf};
-ghost use Rattle.desk_output.specs.Outputs.{tableBytes, refusedLine, shortLine};
+ghost use Rattle.desk_output.specs.Outputs.{fiveTelegrams, refusedListLine, shortListLine};
 
 // One packet, by the step number and the four slots that it carries.
 fn put_packet(step: u16, packet: u8, slots: [Slot; 4], out: &mut [u8], at: usize) -> usize
@@ -25,7 +25,7 @@ fn put_packet(step: u16, packet: u8, slots: [Slot; 4], out: &mut [u8], at: usize
 
 // The table as five telegrams, packets 3 to 7: 130 bytes. It is made once, and each packet is handed its four slots alone.
 pub fn put_table(desk: Desk, out: &mut [u8], at: usize) -> usize
-    ensures { λ r. ⌜ Poured (now (out .entry)) at (tableBytes desk) (now (out .exit)) r ⌝ }
+    ensures { λ r. ⌜ Poured (now (out .entry)) at (fiveTelegrams desk) (now (out .exit)) r ⌝ }
 {
     let table = desk_writer::table_of(desk);
     let step = desk.step;
@@ -38,7 +38,7 @@ pub fn put_table(desk: Desk, out: &mut [u8], at: usize) -> usize
 
 // `refused N at list I` and a line feed.
 pub fn put_refused(number: u8, list: u64, line: &mut [u8], at: usize) -> usize
-    ensures { λ r. ⌜ Poured (now (line .entry)) at (refusedLine number list) (now (line .exit)) r ⌝ }
+    ensures { λ r. ⌜ Poured (now (line .entry)) at (refusedListLine number list) (now (line .exit)) r ⌝ }
 {
     let first = text::put_words(line, at, b"refused ");
     let second = text::put_decimal(line, first, number as u64);
@@ -49,7 +49,7 @@ pub fn put_refused(number: u8, list: u64, line: &mut [u8], at: usize) -> usize
 
 // `short list` and a line feed.
 pub fn put_short(line: &mut [u8], at: usize) -> usize
-    ensures { λ r. ⌜ Poured (now (line .entry)) at shortLine (now (line .exit)) r ⌝ }
+    ensures { λ r. ⌜ Poured (now (line .entry)) at shortListLine (now (line .exit)) r ⌝ }
 {
     text::put_words(line, at, b"short list\n")
 }

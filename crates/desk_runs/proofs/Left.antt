@@ -6,13 +6,13 @@ use mathlib.Core.List.{List, [], _∷_}
 use lib.ListN.{length, take, drop}
 use Rattle.frames.specs.Frames.{noBare, wholeSize}
 use Rattle.frames.proofs.Splitting.{calls-more, calls-none, calls-end}
-use Rattle.desk.specs.Desks.{rest, acceptOf, Made, made, called}
+use Rattle.desk.specs.Desks.{baseRest, acceptOf, Made, made, called}
 use Rattle.desk.specs.declared.Desk.{Desk}
 use Rattle.desk_runs.specs.Runs.{listsOf, deskFrom, deskAtEnd}
 
 module _ (desk : Desk) (input : List ℕ) where
   module _ (size : ℕ) (sized : size ≡ wholeSize noBare input) where
-    pub left-more : 1 ≤ size → deskFrom desk (listsOf input) ≡ deskFrom (acceptOf rest desk (take (size - 2) (drop 2 input)) .desk) (listsOf (drop size input))
+    pub left-more : 1 ≤ size → deskFrom desk (listsOf input) ≡ deskFrom (acceptOf baseRest desk (take (size - 2) (drop 2 input)) .desk) (listsOf (drop size input))
     unfolding deskFrom listsOf
     left-more some = rw (calls-more noBare input size sized some) refl
 

@@ -6,8 +6,8 @@ ghost use Prim.Native.Nat.{_≤_};
 ghost use mathlib.Core.Path.{_≡_};
 ghost use lib.ListN.{length};
 ghost use Rattle.kit.specs.Put.{Poured};
-ghost use Rattle.desk.specs.Desks.{rest, acceptOf, Made};
-ghost use Rattle.desk_runs.specs.Runs.{tableFor, lineFor, tablesOf, linesOf, deskAtEnd};
+ghost use Rattle.desk.specs.Desks.{baseRest, acceptOf, Made};
+ghost use Rattle.desk_runs.specs.Runs.{tableFor, lineFor, runTables, refusedLines, deskAtEnd};
 
 // How many bytes were put into each of the two buffers.
 pub struct Ran {
@@ -24,9 +24,9 @@ struct Taken {
 // One list: the table after it, or the line that it is refused.
 fn take(desk: Desk, list: &[u8], lists: u64, tables: &mut [u8], lines: &mut [u8], ran: Ran) -> Taken
     requires { ⌜ Made desk × (ran .tables ≤ length (now tables)) × (ran .lines ≤ length (now lines)) ⌝ }
-    ensures { λ r. ⌜ (r .desk ≡ acceptOf rest desk (now (list .entry)) .desk)
-        × Poured (now (tables .entry)) (ran .tables) (tableFor (acceptOf rest desk (now (list .entry)) .verdict) (acceptOf rest desk (now (list .entry)) .desk)) (now (tables .exit)) (r .ran .tables)
-        × Poured (now (lines .entry)) (ran .lines) (lineFor (acceptOf rest desk (now (list .entry)) .verdict) lists) (now (lines .exit)) (r .ran .lines) ⌝ }
+    ensures { λ r. ⌜ (r .desk ≡ acceptOf baseRest desk (now (list .entry)) .desk)
+        × Poured (now (tables .entry)) (ran .tables) (tableFor (acceptOf baseRest desk (now (list .entry)) .verdict) (acceptOf baseRest desk (now (list .entry)) .desk)) (now (tables .exit)) (r .ran .tables)
+        × Poured (now (lines .entry)) (ran .lines) (lineFor (acceptOf baseRest desk (now (list .entry)) .verdict) lists) (now (lines .exit)) (r .ran .lines) ⌝ }
 {
     let answer = desk.accept(list);
     let verdict = answer.verdict;
@@ -58,8 +58,8 @@ fn take(desk: Desk, list: &[u8], lists: u64, tables: &mut [u8], lines: &mut [u8]
 // Hands all lists to a fresh desk: the table after each that is accepted, and a line for each that is refused and where the input ends
 // inside a list. What has no room before a buffer's end is dropped.
 pub fn run(input: &[u8], tables: &mut [u8], lines: &mut [u8]) -> Ran
-    ensures { λ r. ⌜ Poured (now (tables .entry)) 0 (tablesOf (now (input .entry))) (now (tables .exit)) (r .tables)
-        × Poured (now (lines .entry)) 0 (linesOf (now (input .entry))) (now (lines .exit)) (r .lines) ⌝ }
+    ensures { λ r. ⌜ Poured (now (tables .entry)) 0 (runTables (now (input .entry))) (now (tables .exit)) (r .tables)
+        × Poured (now (lines .entry)) 0 (refusedLines (now (input .entry))) (now (lines .exit)) (r .lines) ⌝ }
 {
     let mut desk = Desk::fresh();
     let mut ran = Ran {

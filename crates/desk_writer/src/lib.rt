@@ -5,7 +5,7 @@ use telegram::Telegram;
 use wire::Verdict;
 ghost use mathlib.Core.Path.{_≡_};
 ghost use Rattle.telegram.specs.Telegrams.{writeVerdict, written};
-ghost use Rattle.desk.specs.Desks.{tableOf, telegramOf};
+ghost use Rattle.desk.specs.Desks.{tableOf, packetOf};
 
 // The twenty slots.
 pub fn table_of(desk: Desk) -> [Slot; 20]
@@ -25,8 +25,8 @@ pub fn table_of(desk: Desk) -> [Slot; 20]
 
 // Writes one packet of the table into a buffer of any length, or refuses and leaves the buffer as it is.
 pub fn write(desk: Desk, packet: u8, buffer: &mut [u8]) -> Verdict
-    ensures { λ r. ⌜ (r ≡ writeVerdict (telegramOf desk packet) (now (buffer .entry)))
-        × (now (buffer .exit) ≡ written (telegramOf desk packet) (now (buffer .entry))) ⌝ }
+    ensures { λ r. ⌜ (r ≡ writeVerdict (packetOf desk packet) (now (buffer .entry)))
+        × (now (buffer .exit) ≡ written (packetOf desk packet) (now (buffer .entry))) ⌝ }
 {
     let table = table_of(desk);
     let telegram = Telegram {

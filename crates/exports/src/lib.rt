@@ -7,12 +7,12 @@ ghost use lib.ListN.{length};
 ghost use Rattle.kit.specs.Put.{Poured};
 ghost use Rattle.wire.specs.Verdicts.{numberOf};
 ghost use Rattle.telegram.specs.Telegrams.{writeRefusal, written};
-ghost use Rattle.desk.specs.Desks.{telegramOf};
+ghost use Rattle.desk.specs.Desks.{packetOf};
 ghost use Rattle.listing.specs.Listings.{listing};
 ghost use Rattle.hearing_runs.specs.Runs.{linesHeard};
 ghost use Rattle.listing_reader.specs.Fixed.{wordOf, codeOf};
-ghost use Rattle.desk_runs.specs.Runs.{tablesOf, linesOf as refusedLines, deskAtEnd};
-ghost use Rattle.signal_runs.specs.Runs.{linesOf as signalLines};
+ghost use Rattle.desk_runs.specs.Runs.{runTables, refusedLines, deskAtEnd};
+ghost use Rattle.signal_runs.specs.Runs.{signalLines};
 
 // The listing of a recording of telegrams, as list_conditions writes it.
 #[no_mangle]
@@ -33,7 +33,7 @@ pub extern "C" fn bravolith_hear(telegrams: &[u8], out: &mut [u8]) -> usize
 // The tables of a desk that is handed the lists, as run_desk writes them to standard output.
 #[no_mangle]
 pub extern "C" fn bravolith_run(lists: &[u8], out: &mut [u8]) -> usize
-    ensures { λ r. ⌜ Poured (now (out .entry)) 0 (tablesOf (now (lists .entry))) (now (out .exit)) r ⌝ }
+    ensures { λ r. ⌜ Poured (now (out .entry)) 0 (runTables (now (lists .entry))) (now (out .exit)) r ⌝ }
 {
     let mut lines = [0u8; 1];
     let ran = desk_runs::run(lists, out, &mut lines);
@@ -65,7 +65,7 @@ fn number_of(verdict: Verdict) -> u8
 #[no_mangle]
 pub extern "C" fn bravolith_write(lists: &[u8], packet: u8, out: &mut [u8]) -> u8
     ensures { λ r. ⌜ (r ≡ writeRefusal packet (length (now (out .entry))))
-        × (now (out .exit) ≡ written (telegramOf (deskAtEnd (now (lists .entry))) packet) (now (out .entry))) ⌝ }
+        × (now (out .exit) ≡ written (packetOf (deskAtEnd (now (lists .entry))) packet) (now (out .entry))) ⌝ }
 {
     number_of(desk_writer::write(desk_runs::desk_after(lists), packet, out))
 }

@@ -10,89 +10,89 @@ use native.Mathlib.Omega.{arith}
 use borrow.Author.Tests.{leb-true, leb-false, le-leb, lt-leb, lt-ltb, le-ltb}
 use Rattle.kit.specs.Bytes.{wordAt}
 use Rattle.kit.proofs.Cases.{on}
-use Rattle.frames.specs.Frames.{follows, sizeOf, isWhole, wholeSize, firstOf, behind, calls, callsOf, left, leftOf, isShort, shortTail}
+use Rattle.frames.specs.Frames.{follows, sizeOf, isWholeFrame, wholeSize, firstOf, behind, framedUpTo, callsOf, leftUpTo, leftOf, isShort, shortTail}
 
 -- ---- the size of the first call
 
 pub size-whole : (bare : ℕ) (input : List ℕ) → sizeOf bare input ≤ length input → wholeSize bare input ≡ sizeOf bare input
-unfolding wholeSize isWhole
+unfolding wholeSize isWholeFrame
 size-whole bare input h = rw (le-leb (sizeOf bare input) (length input) h) refl
 
 pub size-part : (bare : ℕ) (input : List ℕ) → length input < sizeOf bare input → wholeSize bare input ≡ 0
-unfolding wholeSize isWhole
+unfolding wholeSize isWholeFrame
 size-part bare input h = rw (lt-leb (sizeOf bare input) (length input) h) refl
 
 pub size-two : (bare : ℕ) (input : List ℕ) → 2 ≤ sizeOf bare input
 unfolding sizeOf
 size-two bare input = omega arith
 
-pub whole-fits : (bare : ℕ) (input : List ℕ) → isWhole bare input ≡ true → sizeOf bare input ≤ length input
-unfolding isWhole
+pub whole-fits : (bare : ℕ) (input : List ℕ) → isWholeFrame bare input ≡ true → sizeOf bare input ≤ length input
+unfolding isWholeFrame
 whole-fits bare input e = leb-true (sizeOf bare input) (length input) e
 
-part-breaks : (bare : ℕ) (input : List ℕ) → isWhole bare input ≡ false → length input < sizeOf bare input
-unfolding isWhole
+part-breaks : (bare : ℕ) (input : List ℕ) → isWholeFrame bare input ≡ false → length input < sizeOf bare input
+unfolding isWholeFrame
 part-breaks bare input e = leb-false (sizeOf bare input) (length input) e
 
-pub behind-shorter : (bare : ℕ) (input : List ℕ) (most : ℕ) → isWhole bare input ≡ true → length input ≤ suc most → length (behind bare input) ≤ most
+pub behind-shorter : (bare : ℕ) (input : List ℕ) (most : ℕ) → isWholeFrame bare input ≡ true → length input ≤ suc most → length (behind bare input) ≤ most
 unfolding behind
 behind-shorter bare input most e h =
     omega (arith, size-two bare input, whole-fits bare input e, length-drop (sizeOf bare input) input)
 
-pub none-left : (bare : ℕ) (input : List ℕ) → length input ≤ 0 → isWhole bare input ≡ false
-unfolding isWhole
+pub none-left : (bare : ℕ) (input : List ℕ) → length input ≤ 0 → isWholeFrame bare input ≡ false
+unfolding isWholeFrame
 none-left bare input h = lt-leb (sizeOf bare input) (length input) (omega (arith, size-two bare input))
 
 -- ---- as many calls as there are bytes are always enough
 
-enough : (bare a b : ℕ) (input : List ℕ) → length input ≤ a → length input ≤ b → (calls bare a input ≡ calls bare b input) × (left bare a input ≡ left bare b input)
-unfolding calls left
+enough : (bare a b : ℕ) (input : List ℕ) → length input ≤ a → length input ≤ b → (framedUpTo bare a input ≡ framedUpTo bare b input) × (leftUpTo bare a input ≡ leftUpTo bare b input)
+unfolding framedUpTo leftUpTo
 enough bare zero zero input p q = (refl, refl)
 enough bare zero (suc b) input p q = rw (none-left bare input p) (refl, refl)
 enough bare (suc a) zero input p q = rw (none-left bare input q) (refl, refl)
 enough bare (suc a) (suc b) input p q =
-    on (isWhole bare input)
+    on (isWholeFrame bare input)
     (λ e.
     let later = enough bare a b (behind bare input) (behind-shorter bare input a e p) (behind-shorter bare input b e q) in
     rw e (ap (λ l. firstOf bare input ∷ l) (later .0), later .1))
     (λ e. rw e (refl, refl))
 
-calls-whole : (bare : ℕ) (input : List ℕ) → isWhole bare input ≡ true → callsOf bare input ≡ firstOf bare input ∷ callsOf bare (behind bare input)
-unfolding calls callsOf
+calls-whole : (bare : ℕ) (input : List ℕ) → isWholeFrame bare input ≡ true → callsOf bare input ≡ firstOf bare input ∷ callsOf bare (behind bare input)
+unfolding framedUpTo callsOf
 calls-whole bare input e =
     enough bare (length input) (suc (length input)) input (omega arith) (omega arith) .0
     ∙ rw e (ap (λ l. firstOf bare input ∷ l) (enough bare (length input) (length (behind bare input)) (behind bare input) (behind-shorter bare input (length input) e (omega arith)) (omega arith) .0))
 
-calls-part : (bare : ℕ) (input : List ℕ) → isWhole bare input ≡ false → callsOf bare input ≡ []
-unfolding calls callsOf
+calls-part : (bare : ℕ) (input : List ℕ) → isWholeFrame bare input ≡ false → callsOf bare input ≡ []
+unfolding framedUpTo callsOf
 calls-part bare input e = enough bare (length input) (suc (length input)) input (omega arith) (omega arith) .0 ∙ rw e refl
 
-left-whole : (bare : ℕ) (input : List ℕ) → isWhole bare input ≡ true → leftOf bare input ≡ leftOf bare (behind bare input)
-unfolding left leftOf
+left-whole : (bare : ℕ) (input : List ℕ) → isWholeFrame bare input ≡ true → leftOf bare input ≡ leftOf bare (behind bare input)
+unfolding leftUpTo leftOf
 left-whole bare input e =
     enough bare (length input) (suc (length input)) input (omega arith) (omega arith) .1
     ∙ rw e (enough bare (length input) (length (behind bare input)) (behind bare input) (behind-shorter bare input (length input) e (omega arith)) (omega arith) .1)
 
-left-part : (bare : ℕ) (input : List ℕ) → isWhole bare input ≡ false → leftOf bare input ≡ input
-unfolding left leftOf
+left-part : (bare : ℕ) (input : List ℕ) → isWholeFrame bare input ≡ false → leftOf bare input ≡ input
+unfolding leftUpTo leftOf
 left-part bare input e = enough bare (length input) (suc (length input)) input (omega arith) (omega arith) .1 ∙ rw e refl
 
 -- ---- what a reader of calls goes by, who knows the size
 
-size-known : (bare : ℕ) (input : List ℕ) → 1 ≤ wholeSize bare input → (isWhole bare input ≡ true) × (wholeSize bare input ≡ sizeOf bare input)
+size-known : (bare : ℕ) (input : List ℕ) → 1 ≤ wholeSize bare input → (isWholeFrame bare input ≡ true) × (wholeSize bare input ≡ sizeOf bare input)
 unfolding wholeSize
-size-known bare input h = on (isWhole bare input) (λ e. (e, rw e refl)) (λ e. absurd (let z : wholeSize bare input ≡ 0 = rw e refl in omega arith))
+size-known bare input h = on (isWholeFrame bare input) (λ e. (e, rw e refl)) (λ e. absurd (let z : wholeSize bare input ≡ 0 = rw e refl in omega arith))
 
-size-unknown : (bare : ℕ) (input : List ℕ) → wholeSize bare input ≡ 0 → isWhole bare input ≡ false
+size-unknown : (bare : ℕ) (input : List ℕ) → wholeSize bare input ≡ 0 → isWholeFrame bare input ≡ false
 unfolding wholeSize
 size-unknown bare input h =
-    on (isWhole bare input)
+    on (isWholeFrame bare input)
     (λ e. absurd (let z : wholeSize bare input ≡ sizeOf bare input = rw e refl in omega (arith, size-two bare input)))
     (λ e. e)
 
 module _ (bare : ℕ) (input : List ℕ) (size : ℕ) (sized : size ≡ wholeSize bare input) where
   module _ (some : 1 ≤ size) where
-    here : (isWhole bare input ≡ true) × (size ≡ sizeOf bare input)
+    here : (isWholeFrame bare input ≡ true) × (size ≡ sizeOf bare input)
     here = let known = size-known bare input (omega arith) in (known .0, sized ∙ known .1)
 
     -- a call has a length, and no more bytes than there are

@@ -7,8 +7,8 @@ use lib.ListN.{length, take, drop}
 use Rattle.kit.specs.Bytes.{wordAt, wordBytes}
 
 -- a call: its length as it stands there, and its bytes
-abbrev pub Call : Type 0
-Call = ℕ × List ℕ
+abbrev pub Framed : Type 0
+Framed = ℕ × List ℕ
 
 -- no length is bare, and each has its bytes: two bytes do not say this one
 abbrev pub noBare : ℕ
@@ -23,36 +23,36 @@ unfoldable pub sizeOf : ℕ → List ℕ → ℕ
 sizeOf bare input = 2 + follows bare (wordAt input 0)
 
 -- the input has the first call whole
-unfoldable pub isWhole : ℕ → List ℕ → Bool
-isWhole bare input = leb (sizeOf bare input) (length input)
+unfoldable pub isWholeFrame : ℕ → List ℕ → Bool
+isWholeFrame bare input = leb (sizeOf bare input) (length input)
 
 -- how many bytes the first call takes, and 0 where the input does not have it whole
 unfoldable pub wholeSize : ℕ → List ℕ → ℕ
-wholeSize bare input = cond (isWhole bare input) (sizeOf bare input) 0
+wholeSize bare input = cond (isWholeFrame bare input) (sizeOf bare input) 0
 
 -- the first call, and what stands behind it
-unfoldable pub firstOf : ℕ → List ℕ → Call
+unfoldable pub firstOf : ℕ → List ℕ → Framed
 firstOf bare input = (wordAt input 0, take (follows bare (wordAt input 0)) (drop 2 input))
 
 unfoldable pub behind : ℕ → List ℕ → List ℕ
 behind bare input = drop (sizeOf bare input) input
 
 -- the calls that the input has whole, `most` of them at the most
-unfoldable pub calls : ℕ → ℕ → List ℕ → List Call
-calls bare zero input = []
-calls bare (suc most) input = cond (isWhole bare input) (firstOf bare input ∷ calls bare most (behind bare input)) []
+unfoldable pub framedUpTo : ℕ → ℕ → List ℕ → List Framed
+framedUpTo bare zero input = []
+framedUpTo bare (suc most) input = cond (isWholeFrame bare input) (firstOf bare input ∷ framedUpTo bare most (behind bare input)) []
 
 -- all of them: there are no more than bytes
-unfoldable pub callsOf : ℕ → List ℕ → List Call
-callsOf bare input = calls bare (length input) input
+unfoldable pub callsOf : ℕ → List ℕ → List Framed
+callsOf bare input = framedUpTo bare (length input) input
 
 -- what is left behind so many whole calls, and behind all of them
-unfoldable pub left : ℕ → ℕ → List ℕ → List ℕ
-left bare zero input = input
-left bare (suc most) input = cond (isWhole bare input) (left bare most (behind bare input)) input
+unfoldable pub leftUpTo : ℕ → ℕ → List ℕ → List ℕ
+leftUpTo bare zero input = input
+leftUpTo bare (suc most) input = cond (isWholeFrame bare input) (leftUpTo bare most (behind bare input)) input
 
 unfoldable pub leftOf : ℕ → List ℕ → List ℕ
-leftOf bare input = left bare (length input) input
+leftOf bare input = leftUpTo bare (length input) input
 
 -- the input ends inside a call, inside its length or its bytes
 unfoldable pub isShort : ℕ → List ℕ → Bool
@@ -63,6 +63,6 @@ unfoldable pub shortTail : ℕ → List ℕ → List ℕ → List ℕ
 shortTail bare line input = cond (isShort bare input) line []
 
 -- the bytes of calls that stand one after another
-unfoldable pub written : List Call → List ℕ
-written [] = []
-written ((word, bytes) ∷ later) = wordBytes word ++ (bytes ++ written later)
+unfoldable pub framedBytes : List Framed → List ℕ
+framedBytes [] = []
+framedBytes ((word, bytes) ∷ later) = wordBytes word ++ (bytes ++ framedBytes later)

@@ -10,11 +10,11 @@ use lib.ListN.{length, getD, length-set, getD-replicate}
 use lib.Seq.{getD-set-same, getD-set-other, ext-getD, length-sets}
 use native.Mathlib.Omega.{arith}
 use borrow.Author.Tests.{eqb-true, eqb-false, eq-eqb, ne-eqb, ltb-true, ltb-false}
-use Rattle.kit.specs.Loops.{count}
+use Rattle.kit.specs.Loops.{howMany}
 use Rattle.kit.proofs.Cases.{on, clash}
 use Rattle.kit.proofs.Loops.{count-same, all-counted}
 use Rattle.kit.proofs.Stores.{sets-in, sets-out}
-use Rattle.condition.specs.Slots.{emptySlot, slots}
+use Rattle.condition.specs.Slots.{emptySlot, slotCount}
 use Rattle.condition.specs.declared.slots.Slot.{Slot}
 use Rattle.telegram.specs.Tables.{tableSlot, packets, firstPacket, firstSlot, fourOf}
 use Rattle.telegram.proofs.Carried.{four-at, four-long}
@@ -25,7 +25,7 @@ use Rattle.hand.specs.declared.Hand.{Hand}
 pub record Gathered (table : List Slot) (step : ℕ) (got : ℕ → Bool) (hand : Hand) : Type 0 where
   pub own-step : hand .step ≡ step
   pub five : length (hand .held) ≡ packets
-  pub twenty : length (hand .slots) ≡ slots
+  pub twenty : length (hand .slots) ≡ slotCount
   pub held : (k : ℕ) → k < packets → getD (hand .held) k false ≡ got k
   pub part : (k i : ℕ) → k < packets → i < 4 → got k ≡ true → tableSlot (hand .slots) (4 * k + i) ≡ tableSlot table (4 * k + i)
 
@@ -87,14 +87,14 @@ module _ {table : List Slot} {step : ℕ} {got : ℕ → Bool} {hand : Hand} (g 
       }
 
   -- L-04: five are held exactly when all five are in it
-  pub gathered-whole : isWhole hand ≡ eqb (count got packets) packets
+  pub gathered-whole : isWhole hand ≡ eqb (howMany got packets) packets
   unfolding isWhole
   gathered-whole = ap (λ n. eqb n packets) (count-same (λ k. getD (hand .held) k false) got packets (g .held))
 
   -- and then it is the table
-  pub gathered-table : length table ≡ slots → isWhole hand ≡ true → hand .slots ≡ table
+  pub gathered-table : length table ≡ slotCount → isWhole hand ≡ true → hand .slots ≡ table
   gathered-table twenty whole =
-      let all : (k : ℕ) → k < packets → got k ≡ true = all-counted got packets (eqb-true (count got packets) packets (sym gathered-whole ∙ whole)) in
+      let all : (k : ℕ) → k < packets → got k ≡ true = all-counted got packets (eqb-true (howMany got packets) packets (sym gathered-whole ∙ whole)) in
       ext-getD emptySlot (hand .slots) table (g .twenty ∙ sym twenty)
       (λ i below. subst (λ n. tableSlot (hand .slots) n ≡ tableSlot table n) (omega arith)
       (g .part (i / 4) (i % 4) (omega (arith, g .twenty)) (omega arith) (all (i / 4) (omega (arith, g .twenty)))))

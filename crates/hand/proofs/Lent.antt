@@ -11,18 +11,18 @@ use lib.Seq.{sets, length-sets, ext-getD, getD-set-same, getD-set-other}
 use native.Mathlib.Omega.{arith}
 use native.Mathlib.Nat.{add-zero}
 use borrow.Author.Tests.{eqb-true, eqb-false, eq-eqb, lt-ltb}
-use Rattle.kit.specs.Bytes.{word, wordBytes}
+use Rattle.kit.specs.Bytes.{wordOfTwo, wordBytes}
 use Rattle.kit.specs.Loops.{fold}
 use Rattle.kit.specs.Put.{Put}
 use Rattle.kit.proofs.Cases.{on}
 use Rattle.kit.proofs.Maps.{replicate-at}
 use Rattle.kit.proofs.Put.{put-then}
 use Rattle.kit.proofs.Stores.{sets-in, sets-out, stored-sets}
-use Rattle.condition.specs.Slots.{emptySlot, slots}
+use Rattle.condition.specs.Slots.{emptySlot, slotCount}
 use Rattle.telegram.specs.Tables.{packets, firstPacket, firstSlot}
 use Rattle.telegram.specs.Telegrams.{packetIn, slotAt, telegramOf}
 use Rattle.telegram_reader.specs.Places.{placeSlot}
-use Rattle.memory.specs.Memory.{room, slotRoom, stepFrom, heldFrom, setFrom, slotPlace, isSet, flagByte, flagsAt, setIn, withSlot, slotBytes, tableBytes}
+use Rattle.memory.specs.Memory.{memorySize, slotRoom, stepFrom, heldFrom, setFrom, slotPlace, isSet, flagByte, flagsAt, setIn, withSlot, slotBytes, tableBytes}
 use Rattle.memory.proofs.Back.{table-length, table-back, flags-back}
 use Rattle.memory.proofs.Slots.{slot-in, length-table, flag-in, length-flags, Same, same-out, table-same, flags-same, slot-zero, word-back, length-with, set-with}
 use Rattle.hand.specs.Sets.{begun, joined}
@@ -50,7 +50,7 @@ module _ (memory : List ℕ) (step : ℕ) where
   unfolding begunIn
   begun-below = same-out run memory stepFrom stepFrom 0 (inl (omega arith))
 
-  module _ (long : length memory ≡ room) where
+  module _ (long : length memory ≡ memorySize) where
     zeros : (k : ℕ) → k < 145 → getD (begunIn memory step) (heldFrom + k) 0 ≡ 0
     unfolding begunIn
     zeros k p =
@@ -61,13 +61,13 @@ module _ (memory : List ℕ) (step : ℕ) where
         after-two : (k : ℕ) → getD run (2 + k) 0 ≡ getD (replicate 145 0) k 0
         after-two k = let e : 2 + k ≡ suc (suc k) = omega arith in ap (λ (n : ℕ). getD run n 0) e
 
-    begun-step : word (getD (begunIn memory step) stepFrom 0) (getD (begunIn memory step) (stepFrom + 1) 0) ≡ step
+    begun-step : wordOfTwo (getD (begunIn memory step) stepFrom 0) (getD (begunIn memory step) (stepFrom + 1) 0) ≡ step
     unfolding begunIn
     begun-step =
         let fits : stepFrom + length run ≤ length memory = omega (arith, run-length, long) in
         let high : getD (sets memory stepFrom run) stepFrom 0 ≡ step / 256 = sets-in 0 run memory stepFrom 0 (omega (arith, run-length)) fits in
         let low : getD (sets memory stepFrom run) (stepFrom + 1) 0 ≡ step % 256 = sets-in 0 run memory stepFrom 1 (omega (arith, run-length)) fits in
-        (λ t. word (high t) (low t)) ∙ word-back step
+        (λ t. wordOfTwo (high t) (low t)) ∙ word-back step
 
     none-held : flagsAt (begunIn memory step) heldFrom packets ≡ replicate packets false
     none-held =
@@ -76,17 +76,17 @@ module _ (memory : List ℕ) (step : ℕ) where
         let q : k < packets = omega (arith, length-flags (begunIn memory step) heldFrom packets) in
         flag-in (begunIn memory step) heldFrom packets k q ∙ (ap isSet (zeros k (omega arith)) ∙ sym (replicate-at packets k false)))
 
-    none-in : setIn (begunIn memory step) ≡ replicate slots emptySlot
+    none-in : setIn (begunIn memory step) ≡ replicate slotCount emptySlot
     none-in =
-        ext-getD emptySlot (setIn (begunIn memory step)) (replicate slots emptySlot) (length-table (begunIn memory step) setFrom)
+        ext-getD emptySlot (setIn (begunIn memory step)) (replicate slotCount emptySlot) (length-table (begunIn memory step) setFrom)
         (λ i p.
-        let q : i < slots = omega (arith, length-table (begunIn memory step) setFrom) in
+        let q : i < slotCount = omega (arith, length-table (begunIn memory step) setFrom) in
         slot-in (begunIn memory step) setFrom i q
         ∙ (slot-zero (begunIn memory step) (slotPlace setFrom i)
         (λ r s.
         let e : slotPlace setFrom i + r ≡ heldFrom + (5 + slotRoom * i + r) = omega arith in
         ap (λ (n : ℕ). getD (begunIn memory step) n 0) e ∙ zeros (5 + slotRoom * i + r) (omega arith))
-        ∙ sym (replicate-at slots i emptySlot)))
+        ∙ sym (replicate-at slotCount i emptySlot)))
 
     pub begun-hand : handIn (begunIn memory step) ≡ begun step
     unfolding handIn begun
@@ -109,7 +109,7 @@ module _ (telegram : List ℕ) (i : ℕ) (memory : List ℕ) where
       sets-out 0 (slotBytes (placeSlot telegram n)) (fourIn telegram i memory n) (slotPlace setFrom (i + n)) j (inl (omega arith)) ∙ four-front n j p
 
   -- the slots after n of them
-  module _ (long : length memory ≡ room) (low : i ≤ 16) where
+  module _ (long : length memory ≡ memorySize) (low : i ≤ 16) where
     four-set : (n : ℕ) → n < 4 → setIn (fourIn telegram i memory (suc n)) ≡ set (setIn (fourIn telegram i memory n)) (i + n) (placeSlot telegram n)
     unfolding fourIn fold
     four-set n p = set-with (fourIn telegram i memory n) (four-length n ∙ long) (i + n) (placeSlot telegram n) (omega arith)
@@ -139,8 +139,8 @@ module _ (memory telegram : List ℕ) where
   joined-below p r q =
       four-front telegram (firstSlot (packetIn telegram)) held-now 4 (0 + r) (omega arith) ∙ sets-out 0 (1 ∷ []) memory (heldFrom + place) (0 + r) (inl (omega arith))
 
-  module _ (long : length memory ≡ room) (whole : length telegram ≡ 26) (packet : packetIn telegram ≤ 7) where
-    held-long : length held-now ≡ room
+  module _ (long : length memory ≡ memorySize) (whole : length telegram ≡ 26) (packet : packetIn telegram ≤ 7) where
+    held-long : length held-now ≡ memorySize
     held-long = length-sets memory (heldFrom + place) (1 ∷ []) ∙ long
 
     first-low : firstSlot (packetIn telegram) ≤ 16
@@ -186,13 +186,13 @@ module _ (memory telegram : List ℕ) where
         ∙ ((λ t. sets (same-set t) (firstSlot (packetIn telegram)) (placed 0 (omega arith) t ∷ placed 1 (omega arith) t ∷ placed 2 (omega arith) t ∷ placed 3 (omega arith) t ∷ [])))
       where
         same-set : setIn held-now ≡ setIn memory
-        same-set = table-same held-now memory setFrom setFrom (same-out (1 ∷ []) memory (heldFrom + place) (slotRoom * slots) setFrom (inr (omega arith)))
+        same-set = table-same held-now memory setFrom setFrom (same-out (1 ∷ []) memory (heldFrom + place) (slotRoom * slotCount) setFrom (inr (omega arith)))
 
     pub joined-hand : handIn (joinedIn memory telegram) ≡ joined (handIn memory) (telegramOf telegram)
     unfolding handIn joined telegramOf
     joined-hand =
         λ t. record {
-          step = word (own-step 0 (omega arith) t) (own-step 1 (omega arith) t);
+          step = wordOfTwo (own-step 0 (omega arith) t) (own-step 1 (omega arith) t);
           held = own-held t;
           slots = own-slots t;
         }
@@ -224,17 +224,17 @@ module _ (hand : Hand) (five : length (hand .held) ≡ packets) where
         record { stored = refl; past = refl } in
         put-then before after .stored
 
-    module _ (long : length memory ≡ room) where
+    module _ (long : length memory ≡ memorySize) where
       abbrev with-hand : List ℕ
       with-hand = sets memory stepFrom (handBytes hand)
 
-      step-back : word (getD with-hand stepFrom 0) (getD with-hand (stepFrom + 1) 0) ≡ hand .step
+      step-back : wordOfTwo (getD with-hand stepFrom 0) (getD with-hand (stepFrom + 1) 0) ≡ hand .step
       unfolding handBytes
       step-back =
           let fits : stepFrom + length (handBytes hand) ≤ length memory = omega (arith, hand-length, long) in
           let high : getD with-hand stepFrom 0 ≡ hand .step / 256 = sets-in 0 (handBytes hand) memory stepFrom 0 (omega (arith, hand-length)) fits in
           let low : getD with-hand (stepFrom + 1) 0 ≡ hand .step % 256 = sets-in 0 (handBytes hand) memory stepFrom 1 (omega (arith, hand-length)) fits in
-          (λ t. word (high t) (low t)) ∙ word-back (hand .step)
+          (λ t. wordOfTwo (high t) (low t)) ∙ word-back (hand .step)
 
       held-back : flagsAt with-hand heldFrom packets ≡ hand .held
       held-back =
@@ -244,7 +244,7 @@ module _ (hand : Hand) (five : length (hand .held) ≡ packets) where
           ∙ (flags-same (sets with-front setFrom (tableBytes (hand .slots))) with-front heldFrom heldFrom packets (same-out (tableBytes (hand .slots)) with-front setFrom packets heldFrom (inl (omega arith)))
           ∙ (ap (λ (n : ℕ). flagsAt with-front heldFrom n) (sym five) ∙ flags-back (hand .held) words heldFrom (omega (arith, words-long, long, five))))
 
-      pub hand-back : length (hand .slots) ≡ slots → handIn with-hand ≡ hand
+      pub hand-back : length (hand .slots) ≡ slotCount → handIn with-hand ≡ hand
       unfolding handIn
       hand-back twenty =
           let slots-back : setIn with-hand ≡ hand .slots =

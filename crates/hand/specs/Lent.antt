@@ -4,7 +4,7 @@ use Prim.Native.Nat.{ℕ, _+_, _-_}
 use mathlib.Core.List.{List, [], _∷_, _++_, map}
 use lib.ListN.{getD, replicate}
 use lib.Seq.{sets}
-use Rattle.kit.specs.Bytes.{word, wordBytes}
+use Rattle.kit.specs.Bytes.{wordOfTwo, wordBytes}
 use Rattle.kit.specs.Loops.{fold}
 use Rattle.telegram.specs.Tables.{packets, firstPacket, firstSlot}
 use Rattle.telegram.specs.Telegrams.{packetIn}
@@ -16,7 +16,7 @@ use Rattle.hand.specs.declared.Hand.{Hand}
 unfoldable pub handIn : List ℕ → Hand
 handIn memory =
     record {
-      step = word (getD memory stepFrom 0) (getD memory (stepFrom + 1) 0);
+      step = wordOfTwo (getD memory stepFrom 0) (getD memory (stepFrom + 1) 0);
       held = flagsAt memory heldFrom packets;
       slots = setIn memory;
     }

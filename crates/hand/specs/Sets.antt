@@ -4,15 +4,15 @@ use mathlib.Core.Bool.{Bool, false, true, cond}
 use lib.Dec.{eqb}
 use lib.ListN.{getD, replicate, set}
 use lib.Seq.{sets}
-use Rattle.kit.specs.Loops.{count}
-use Rattle.condition.specs.Slots.{emptySlot, slots}
+use Rattle.kit.specs.Loops.{howMany}
+use Rattle.condition.specs.Slots.{emptySlot, slotCount}
 use Rattle.telegram.specs.Tables.{packets, firstPacket, firstSlot}
 use Rattle.telegram.specs.declared.Telegram.{Telegram}
 use Rattle.hand.specs.declared.Hand.{Hand}
 
 -- L-03: a set that begins: its step number, none of five packets held, nothing known of twenty slots
 unfoldable pub begun : ℕ → Hand
-begun step = record { step = step; held = replicate packets false; slots = replicate slots emptySlot }
+begun step = record { step = step; held = replicate packets false; slots = replicate slotCount emptySlot }
 
 -- L-03: the set that a telegram of this step number goes into: the one in hand if it has that number; any other step number drops
 -- an unfinished set and begins one
@@ -34,4 +34,4 @@ joined hand t =
 
 -- L-04: five are held
 unfoldable pub isWhole : Hand → Bool
-isWhole hand = eqb (count (λ k. getD (hand .held) k false) packets) packets
+isWhole hand = eqb (howMany (λ k. getD (hand .held) k false) packets) packets

@@ -7,7 +7,7 @@ use Rattle.frames.specs.Frames.{noBare, wholeSize, shortTail}
 use Rattle.frames.proofs.Splitting.{calls-more, tail-more, calls-none, tail-short, calls-end, tail-end}
 use Rattle.listener.specs.declared.Listener.{Listener}
 use Rattle.listing_tables.specs.Tables.{heardLines}
-use Rattle.lister.specs.Hearings.{heard, linesFor}
+use Rattle.lister.specs.Hearings.{heardBy, linesFor}
 use Rattle.hearing_runs.specs.Runs.{framedTelegrams, shortTelegramLine, linesHeardBy}
 
 module _ (listener : Listener) (input : List ℕ) where
@@ -16,11 +16,11 @@ module _ (listener : Listener) (input : List ℕ) where
     abbrev pub first : List ℕ
     first = take (size - 2) (drop 2 input)
 
-    pub lines-more : 1 ≤ size → linesHeardBy listener input ≡ heardLines (heard listener first) ++ linesHeardBy (heard listener first .listener) (drop size input)
+    pub lines-more : 1 ≤ size → linesHeardBy listener input ≡ heardLines (heardBy listener first) ++ linesHeardBy (heardBy listener first .listener) (drop size input)
     unfolding linesHeardBy framedTelegrams linesFor
     lines-more some =
         rw (calls-more noBare input size sized some, tail-more noBare input size sized some shortTelegramLine)
-        (append-assoc (heardLines (heard listener first)) (linesFor (heard listener first .listener) (framedTelegrams (drop size input))) (shortTail noBare shortTelegramLine (drop size input)))
+        (append-assoc (heardLines (heardBy listener first)) (linesFor (heardBy listener first .listener) (framedTelegrams (drop size input))) (shortTail noBare shortTelegramLine (drop size input)))
 
     pub lines-short : size ≡ 0 → 1 ≤ length input → linesHeardBy listener input ≡ shortTelegramLine
     unfolding linesHeardBy framedTelegrams linesFor

@@ -4,13 +4,13 @@ ghost use mathlib.Core.Path.{_≡_};
 ghost use Rattle.kit.specs.Put.{Poured};
 ghost use Rattle.listener.specs.Lent.{listenerIn};
 ghost use Rattle.listing_tables.specs.Tables.{heardLines};
-ghost use Rattle.lister.specs.Hearings.{heard};
+ghost use Rattle.lister.specs.Hearings.{heardBy};
 ghost use Rattle.hearing_runs.specs.Runs.{linesHeard};
 
 // Hears one telegram in lent memory, and puts its lines.
 fn hear_next(memory: &mut [u8; 310], telegram: &[u8], lines: &mut [u8], at: usize) -> usize
-    ensures { λ r. ⌜ (listenerIn (now (memory .exit)) ≡ heard (listenerIn (now (memory .entry))) (now (telegram .entry)) .listener)
-        × Poured (now (lines .entry)) at (heardLines (heard (listenerIn (now (memory .entry))) (now (telegram .entry)))) (now (lines .exit)) r ⌝ }
+    ensures { λ r. ⌜ (listenerIn (now (memory .exit)) ≡ heardBy (listenerIn (now (memory .entry))) (now (telegram .entry)) .listener)
+        × Poured (now (lines .entry)) at (heardLines (heardBy (listenerIn (now (memory .entry))) (now (telegram .entry)))) (now (lines .exit)) r ⌝ }
 {
     let answer = listener::hear_in(memory, telegram);
     listing_tables::put_heard(answer, memory, lines, at)

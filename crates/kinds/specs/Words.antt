@@ -15,12 +15,12 @@ abbrev pub isVoltage : ℕ → Bool
 isVoltage voltage = leb voltage 5
 
 -- K-03: bits 15..14 zero, bits 13..4 any country, bits 3..0 the voltage
-abbrev pub tractionWord : ℕ → Bool
-tractionWord second = ltb second 0x4000 && isVoltage (second % 16)
+abbrev pub isTractionWord : ℕ → Bool
+isTractionWord second = ltb second 0x4000 && isVoltage (second % 16)
 
 -- K-04: a limit of 0 to 1000 in units of 10 A, or 1023 for no restriction
-abbrev pub currentWord : ℕ → Bool
-currentWord second = leb second 1000 || eqb second 1023
+abbrev pub isCurrentWord : ℕ → Bool
+isCurrentWord second = leb second 1000 || eqb second 1023
 
 -- K-10: for types 4 and 5, when the change distance is 8000h, the second word is not considered
 unfoldable pub isConsidered : ℕ → ℕ → Bool
@@ -30,7 +30,7 @@ isConsidered kind first = not (eqb first noValue && (eqb kind 4 || eqb kind 5))
 unfoldable pub secondAllowed : ℕ → ℕ → ℕ → Bool
 secondAllowed kind first second =
     not (isConsidered kind first)
-    || cond (eqb kind 4) (tractionWord second) (cond (eqb kind 5) (currentWord second) true)
+    || cond (eqb kind 4) (isTractionWord second) (cond (eqb kind 5) (isCurrentWord second) true)
 
 -- K-11: where it is not considered, the second word is held as zero
 unfoldable pub secondHeld : ℕ → ℕ → ℕ → ℕ

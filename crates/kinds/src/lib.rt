@@ -1,6 +1,6 @@
 // The types of conditions, their two words, and which second words a type allows.
 ghost use mathlib.Core.Path.{_≡_};
-ghost use Rattle.kinds.specs.Words.{isType, tractionWord, currentWord, isConsidered, secondAllowed, secondHeld};
+ghost use Rattle.kinds.specs.Words.{isType, isTractionWord, isCurrentWord, isConsidered, secondAllowed, secondHeld};
 use wire::NO_VALUE;
 
 // The types whose second word is no distance; the highest type.
@@ -48,7 +48,7 @@ fn considered(kind: u8, first: u16) -> bool
 }
 
 fn traction_word(second: u16) -> bool
-    ensures { λ r. ⌜ r ≡ tractionWord second ⌝ }
+    ensures { λ r. ⌜ r ≡ isTractionWord second ⌝ }
 {
     if second < ABOVE_COUNTRY {
         return second % VOLTAGES <= VOLTAGE_MOST;
@@ -57,7 +57,7 @@ fn traction_word(second: u16) -> bool
 }
 
 fn current_word(second: u16) -> bool
-    ensures { λ r. ⌜ r ≡ currentWord second ⌝ }
+    ensures { λ r. ⌜ r ≡ isCurrentWord second ⌝ }
 {
     if second <= LIMIT_MOST {
         return true;

@@ -6,17 +6,17 @@ use mathlib.Core.List.{List, [], _∷_, _++_}
 use lib.ListN.{length, take, drop, List·getD-eq-default}
 use lib.Seq.{getD-drop}
 use native.Mathlib.Omega.{arith}
-use Rattle.kit.specs.Bytes.{Bytes, word, wordAt, longAt}
+use Rattle.kit.specs.Bytes.{Bytes, wordOfTwo, wordAt, longAt}
 
 -- a word is that of its bytes
-pub word-back : (w : ℕ) → word (w / 256) (w % 256) ≡ w
+pub word-back : (w : ℕ) → wordOfTwo (w / 256) (w % 256) ≡ w
 word-back w = omega arith
 
 -- the bytes of a word are those that made it
-pub high-back : (high low : ℕ) → low < 256 → word high low / 256 ≡ high
+pub high-back : (high low : ℕ) → low < 256 → wordOfTwo high low / 256 ≡ high
 high-back high low h = omega arith
 
-pub low-back : (high low : ℕ) → low < 256 → word high low % 256 ≡ low
+pub low-back : (high low : ℕ) → low < 256 → wordOfTwo high low % 256 ≡ low
 low-back high low h = omega arith
 
 module _ (l : List ℕ) (i : ℕ) (past : length l ≤ i) where

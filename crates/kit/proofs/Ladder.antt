@@ -10,9 +10,9 @@ use mathlib.Core.List.{List, [], _∷_, _++_}
 use lib.Dec.{eqb}
 use native.Mathlib.Omega.{arith}
 use borrow.Author.Tests.{eqb-true, eqb-false}
-use Rattle.kit.specs.Ladder.{ladder, Decides, Silent, above, Numbers, Numbered}
+use Rattle.kit.specs.Ladder.{ladder, Decides, NoneHolds, above, Numbers, Numbered}
 use Rattle.kit.specs.Each.{each}
-use Rattle.kit.specs.Loops.{first, scan}
+use Rattle.kit.specs.Loops.{firstNonzero, scan}
 use Rattle.kit.proofs.Cases.{on, given}
 
 module _ {A : Type 0} where
@@ -22,19 +22,19 @@ module _ {A : Type 0} where
   ladder-decides other answer ((t, own) ∷ rows) (inl (e, same)) = rw e same
   ladder-decides other answer ((t, own) ∷ rows) (inr (e, d)) = rw e (ladder-decides other answer rows d)
 
-  pub ladder-silent : (other : A) (rows : List (Bool × A)) → Silent rows → ladder other rows ≡ other
+  pub ladder-silent : (other : A) (rows : List (Bool × A)) → NoneHolds rows → ladder other rows ≡ other
   unfolding ladder
   ladder-silent other [] s = refl
   ladder-silent other ((t, own) ∷ rows) (e, s) = rw e (ladder-silent other rows s)
 
   -- a ladder either decides or is silent
-  pub climb : (other : A) (rows : List (Bool × A)) → Decides rows (ladder other rows) ⊎ Silent rows
+  pub climb : (other : A) (rows : List (Bool × A)) → Decides rows (ladder other rows) ⊎ NoneHolds rows
   unfolding ladder
   climb other [] = inr tt
   climb other ((true, own) ∷ rows) = inl (inl (refl, refl))
   climb other ((false, own) ∷ rows) = further (climb other rows)
     where
-      further : Decides rows (ladder other rows) ⊎ Silent rows → Decides ((false, own) ∷ rows) (ladder other rows) ⊎ Silent ((false, own) ∷ rows)
+      further : Decides rows (ladder other rows) ⊎ NoneHolds rows → Decides ((false, own) ∷ rows) (ladder other rows) ⊎ NoneHolds ((false, own) ∷ rows)
       further (inl d) = inl (inr (refl, d))
       further (inr s) = inr (refl, s)
 
@@ -44,31 +44,31 @@ module _ {A : Type 0} where
   ladder-append other [] lower = refl
   ladder-append other ((t, own) ∷ upper) lower = ap (λ (rest : A). cond t own rest) (ladder-append other upper lower)
 
-  pub silent-append : (upper lower : List (Bool × A)) → Silent (upper ++ lower) → Silent upper × Silent lower
+  pub silent-append : (upper lower : List (Bool × A)) → NoneHolds (upper ++ lower) → NoneHolds upper × NoneHolds lower
   silent-append [] lower s = (tt, s)
   silent-append ((t, own) ∷ upper) lower (e, s) = given (silent-append upper lower s) (λ (a, b). ((e, a), b))
 
-  pub decides-append : (upper lower : List (Bool × A)) (answer : A) → Decides (upper ++ lower) answer → Decides upper answer ⊎ (Silent upper × Decides lower answer)
+  pub decides-append : (upper lower : List (Bool × A)) (answer : A) → Decides (upper ++ lower) answer → Decides upper answer ⊎ (NoneHolds upper × Decides lower answer)
   decides-append [] lower answer d = inr (tt, d)
   decides-append ((t, own) ∷ upper) lower answer (inl here) = inl (inl here)
   decides-append ((t, own) ∷ upper) lower answer (inr (e, d)) = further (decides-append upper lower answer d)
     where
-      further : Decides upper answer ⊎ (Silent upper × Decides lower answer) → Decides ((t, own) ∷ upper) answer ⊎ (Silent ((t, own) ∷ upper) × Decides lower answer)
+      further : Decides upper answer ⊎ (NoneHolds upper × Decides lower answer) → Decides ((t, own) ∷ upper) answer ⊎ (NoneHolds ((t, own) ∷ upper) × Decides lower answer)
       further (inl above) = inl (inr (e, above))
       further (inr (s, below)) = inr ((e, s), below)
 
-  pub silent-join : (upper lower : List (Bool × A)) → Silent upper → Silent lower → Silent (upper ++ lower)
+  pub silent-join : (upper lower : List (Bool × A)) → NoneHolds upper → NoneHolds lower → NoneHolds (upper ++ lower)
   silent-join [] lower a b = b
   silent-join ((t, own) ∷ upper) lower (e, a) b = (e, silent-join upper lower a b)
 
-  pub silent-each : (rows : ℕ → List (Bool × A)) (k n : ℕ) → Silent (each rows k n) → (i : ℕ) → k ≤ i → i < k + n → Silent (rows i)
+  pub silent-each : (rows : ℕ → List (Bool × A)) (k n : ℕ) → NoneHolds (each rows k n) → (i : ℕ) → k ≤ i → i < k + n → NoneHolds (rows i)
   unfolding each
   silent-each rows k zero s i p q = absurd (omega arith)
   silent-each rows k (suc n) s i p q =
       given (silent-append (rows k) (each rows (k + 1) n) s)
-      (λ (a, b). on (eqb k i) (λ e. subst (λ j. Silent (rows j)) (eqb-true k i e) a) (λ e. silent-each rows (k + 1) n b i (omega (arith, eqb-false k i e)) (omega arith)))
+      (λ (a, b). on (eqb k i) (λ e. subst (λ j. NoneHolds (rows j)) (eqb-true k i e) a) (λ e. silent-each rows (k + 1) n b i (omega (arith, eqb-false k i e)) (omega arith)))
 
-  pub silent-all : (rows : ℕ → List (Bool × A)) (k n : ℕ) → ((i : ℕ) → k ≤ i → i < k + n → Silent (rows i)) → Silent (each rows k n)
+  pub silent-all : (rows : ℕ → List (Bool × A)) (k n : ℕ) → ((i : ℕ) → k ≤ i → i < k + n → NoneHolds (rows i)) → NoneHolds (each rows k n)
   unfolding each
   silent-all rows k zero s = tt
   silent-all rows k (suc n) s = silent-join (rows k) (each rows (k + 1) n) (s k (omega arith) (omega arith)) (silent-all rows (k + 1) n (λ i p q. s i (omega arith) (omega arith)))
@@ -95,14 +95,14 @@ module _ (rows : List (Bool × ℕ)) (numbered : Numbered rows) where
   pub refused-exactly : (n : ℕ) → 1 ≤ n → (ladder 0 rows ≡ n) ↔ Decides rows n
   refused-exactly n p = (λ e. go e (climb 0 rows), ladder-decides 0 n rows)
     where
-      go : ladder 0 rows ≡ n → Decides rows (ladder 0 rows) ⊎ Silent rows → Decides rows n
+      go : ladder 0 rows ≡ n → Decides rows (ladder 0 rows) ⊎ NoneHolds rows → Decides rows n
       go e (inl d) = subst (Decides rows) e d
       go e (inr s) = absurd (omega (arith, ladder-silent 0 rows s))
 
-  pub passed-exactly : (ladder 0 rows ≡ 0) ↔ Silent rows
+  pub passed-exactly : (ladder 0 rows ≡ 0) ↔ NoneHolds rows
   passed-exactly = (λ e. go e (climb 0 rows), ladder-silent 0 rows)
     where
-      go : ladder 0 rows ≡ 0 → Decides rows (ladder 0 rows) ⊎ Silent rows → Silent rows
+      go : ladder 0 rows ≡ 0 → Decides rows (ladder 0 rows) ⊎ NoneHolds rows → NoneHolds rows
       go e (inl d) = absurd (omega (arith, decides-positive rows (ladder 0 rows) numbered d))
       go e (inr s) = s
 
@@ -110,7 +110,7 @@ module _ (rows : List (Bool × ℕ)) (numbered : Numbered rows) where
   pub upper-answers : (other : ℕ) → (ladder 0 rows ≡ 0 → ⊥) → ladder other rows ≡ ladder 0 rows
   upper-answers other n = go (climb 0 rows)
     where
-      go : Decides rows (ladder 0 rows) ⊎ Silent rows → ladder other rows ≡ ladder 0 rows
+      go : Decides rows (ladder 0 rows) ⊎ NoneHolds rows → ladder other rows ≡ ladder 0 rows
       go (inl d) = ladder-decides other (ladder 0 rows) rows d
       go (inr s) = absurd (n (ladder-silent 0 rows s))
 
@@ -127,7 +127,7 @@ above-append upper lower numbered =
 
 -- the ladder of several things answers as the first of them that has a row that holds: "the first bad slot, within it .."
 pub ladder-each : (rows : ℕ → List (Bool × ℕ)) → ((i : ℕ) → Numbered (rows i)) → (k n : ℕ)
-    → ladder 0 (each rows k n) ≡ first (λ i. ladder 0 (rows i)) k n
+    → ladder 0 (each rows k n) ≡ firstNonzero (λ i. ladder 0 (rows i)) k n
 unfolding each ladder scan above
 ladder-each rows a k zero = refl
 ladder-each rows a k (suc n) =

@@ -6,7 +6,7 @@ use lib.Dec.{eqb}
 use native.Mathlib.Omega.{arith}
 use borrow.Author.Tests.{eqb-true, eqb-false, eq-eqb, ne-eqb, ltb-true, ltb-false}
 use native.Mathlib.Numerals.{add-one}
-use Rattle.kit.specs.Loops.{scan, fold, any, first, find, found, count}
+use Rattle.kit.specs.Loops.{scan, fold, any, firstNonzero, find, found, howMany}
 use Rattle.kit.proofs.Cases.{on, clash, given}
 
 left-suc : (n k : ℕ) → k < n → n - k ≡ suc (n - (k + 1))
@@ -77,12 +77,12 @@ module _ (test : ℕ → Bool) where
   pub found-when : (n j : ℕ) → j < n → test j ≡ true → found test n ≡ true
   found-when n j p t = on (found test n) (λ e. e) (λ e. absurd (clash t (found-none n j e p)))
 
--- the turns of `first`, by whether a number is 0
+-- the turns of `firstNonzero`, by whether a number is 0
 module _ (number : ℕ → ℕ) (n k : ℕ) (p : k < n) where
-  pub first-go : number k ≡ 0 → first number k (n - k) ≡ first number (k + 1) (n - (k + 1))
+  pub first-go : number k ≡ 0 → firstNonzero number k (n - k) ≡ firstNonzero number (k + 1) (n - (k + 1))
   first-go e = scan-go _ _ _ n k p (rw (eq-eqb (number k) 0 e) refl)
 
-  pub first-hit : (number k ≡ 0 → ⊥) → first number k (n - k) ≡ number k
+  pub first-hit : (number k ≡ 0 → ⊥) → firstNonzero number k (n - k) ≡ number k
   first-hit e = scan-hit _ _ _ n k p (rw (ne-eqb (number k) 0 e) refl)
 
 module _ (test : ℕ → Bool) where
@@ -144,30 +144,30 @@ module _ {A : Type 0} (turn : ℕ → A → A) (start : A) where
 -- a count: at most all, and all exactly when each passes
 module _ (test : ℕ → Bool) where
   -- one turn of a loop that counts
-  pub count-turn : (now next k : ℕ) → now ≡ count test k → next ≡ cond (test k) (now + 1) now → next ≡ count test (k + 1)
-  unfolding count
+  pub count-turn : (now next k : ℕ) → now ≡ howMany test k → next ≡ cond (test k) (now + 1) now → next ≡ howMany test (k + 1)
+  unfolding howMany
   count-turn = fold-turn (λ i so-far. cond (test i) (so-far + 1) so-far) 0
 
-  pub count-none : count test 0 ≡ 0
-  unfolding count
+  pub count-none : howMany test 0 ≡ 0
+  unfolding howMany
   count-none = fold-none (λ i so-far. cond (test i) (so-far + 1) so-far) 0
 
-  count-suc : (n : ℕ) → count test (suc n) ≡ cond (test n) (count test n + 1) (count test n)
-  unfolding count fold
+  count-suc : (n : ℕ) → howMany test (suc n) ≡ cond (test n) (howMany test n + 1) (howMany test n)
+  unfolding howMany fold
   count-suc n = refl
 
-  pub count-most : (n : ℕ) → count test n ≤ n
+  pub count-most : (n : ℕ) → howMany test n ≤ n
   count-most zero = omega (arith, count-none)
   count-most (suc n) =
       on (test n)
       (λ t. rw (count-suc n, t) (omega (arith, count-most n)))
       (λ t. rw (count-suc n, t) (omega (arith, count-most n)))
 
-  pub count-all : (n : ℕ) → ((k : ℕ) → k < n → test k ≡ true) → count test n ≡ n
+  pub count-all : (n : ℕ) → ((k : ℕ) → k < n → test k ≡ true) → howMany test n ≡ n
   count-all zero each = count-none
   count-all (suc n) each = rw (count-suc n, each n (omega arith)) (omega (arith, count-all n (λ k p. each k (omega arith))))
 
-  pub all-counted : (n : ℕ) → count test n ≡ n → (k : ℕ) → k < n → test k ≡ true
+  pub all-counted : (n : ℕ) → howMany test n ≡ n → (k : ℕ) → k < n → test k ≡ true
   all-counted zero full k p = absurd (omega arith)
   all-counted (suc n) full k p =
       on (test n)
@@ -178,7 +178,7 @@ module _ (test : ℕ → Bool) where
       (λ t. absurd (omega (arith, count-most n, rw (count-suc n, t) at full)))
 
 -- tests that agree count the same
-pub count-same : (f g : ℕ → Bool) (n : ℕ) → ((k : ℕ) → k < n → f k ≡ g k) → count f n ≡ count g n
-unfolding count fold
+pub count-same : (f g : ℕ → Bool) (n : ℕ) → ((k : ℕ) → k < n → f k ≡ g k) → howMany f n ≡ howMany g n
+unfolding howMany fold
 count-same f g zero same = refl
 count-same f g (suc n) same = rw (same n (omega arith), count-same f g n (λ k p. same k (omega arith))) refl

@@ -1,5 +1,5 @@
 -- What a contract says of a function that is lent a record to change it. In plain words it is what Contracts.antt says of the others:
--- `Promised` that each outcome that the contract allows is such, `OneAnswer` that the contract allows one outcome.
+-- `PromisedLent` that each outcome that the contract allows is such, `OneAnswerLent` that the contract allows one outcome.
 --
 -- It takes more words here because the checker makes no `Learnt`, no plain fact, of such a contract. Its `ensures` is an assertion about
 -- memory, over a model of the machine: the algebra `𝓤` of what can be owned, with its heap `H`, its atoms `A`, and what it says of memory
@@ -30,16 +30,16 @@ module _ (ended : Ended) where
 
   module _ (clauses : Assertions) where
     -- it promises this of every outcome that it allows
-    abbrev pub Promised : ((κs : Lfts (ended .signature .lifetimes)) (handed : Args (ended .signature) κs) → Res (ended .signature) κs → Lasts ended κs handed → Type 0) → Type 2
-    Promised Such =
+    abbrev pub PromisedLent : ((κs : Lfts (ended .signature .lifetimes)) (handed : Args (ended .signature) κs) → Res (ended .signature) κs → Lasts ended κs handed → Type 0) → Type 2
+    PromisedLent Such =
         (M : Type 1) (𝓤 : URA M) (H : Heap 𝓤) (A : Atoms 𝓤) (mem : Memory → SProp 𝓤) (run : Routine → Fun 𝓤)
         (κs : Lfts (ended .signature .lifetimes)) (handed : Args (ended .signature) κs) (ghost : clauses M 𝓤 H A mem run κs handed .ghost)
         (answer : Res (ended .signature) κs) (lasts : Lasts ended κs handed)
         → ent 𝓤 (clauses M 𝓤 H A mem run κs handed .ensures ghost answer (atExit ended κs handed lasts)) (fact 𝓤 (Such κs handed answer lasts))
 
     -- C-01 to C-04: it admits one answer
-    abbrev pub OneAnswer : Type 2
-    OneAnswer =
+    abbrev pub OneAnswerLent : Type 2
+    OneAnswerLent =
         (M : Type 1) (𝓤 : URA M) (H : Heap 𝓤) (A : Atoms 𝓤) (mem : Memory → SProp 𝓤) (run : Routine → Fun 𝓤)
         (κs : Lfts (ended .signature .lifetimes)) (handed : Args (ended .signature) κs) (ghost : clauses M 𝓤 H A mem run κs handed .ghost)
         (answer other : Res (ended .signature) κs) (lasts others : Lasts ended κs handed)

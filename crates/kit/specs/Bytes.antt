@@ -12,12 +12,12 @@ abbrev pub Bytes : List ℕ → Type 0
 Bytes l = (i : ℕ) → getD l i 0 < 256
 
 -- the word of two bytes
-abbrev pub word : ℕ → ℕ → ℕ
-word high low = high * 256 + low
+abbrev pub wordOfTwo : ℕ → ℕ → ℕ
+wordOfTwo high low = high * 256 + low
 
 -- the word at index i of a list of bytes, and the number of four bytes there
 abbrev pub wordAt : List ℕ → ℕ → ℕ
-wordAt l i = word (getD l i 0) (getD l (i + 1) 0)
+wordAt l i = wordOfTwo (getD l i 0) (getD l (i + 1) 0)
 
 abbrev pub longAt : List ℕ → ℕ → ℕ
 longAt l i = wordAt l i * 0x10000 + wordAt l (i + 2)

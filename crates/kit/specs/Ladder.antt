@@ -21,9 +21,9 @@ module _ {A : Type 0} where
   Decides ((holds, own) ∷ below) answer = ((holds ≡ true) × (own ≡ answer)) ⊎ ((holds ≡ false) × Decides below answer)
 
   -- no row holds
-  abbrev pub Silent : List (Bool × A) → Type 0
-  Silent [] = Unit
-  Silent ((holds, own) ∷ below) = (holds ≡ false) × Silent below
+  abbrev pub NoneHolds : List (Bool × A) → Type 0
+  NoneHolds [] = Unit
+  NoneHolds ((holds, own) ∷ below) = (holds ≡ false) × NoneHolds below
 
 -- the answer of one ladder of numbers above another: the upper one's, or where that is 0 the lower one's
 unfoldable pub above : ℕ → ℕ → ℕ

@@ -19,8 +19,8 @@ abbrev pub any : (ℕ → Bool) → ℕ → ℕ → Bool
 any test k n = scan test (λ i. true) false k n
 
 -- the first of number k, number (k + 1), and so on, n of them, that is not 0, or 0
-abbrev pub first : (ℕ → ℕ) → ℕ → ℕ → ℕ
-first number k n = scan (λ i. not (eqb (number i) 0)) number 0 k n
+abbrev pub firstNonzero : (ℕ → ℕ) → ℕ → ℕ → ℕ
+firstNonzero number k n = scan (λ i. not (eqb (number i) 0)) number 0 k n
 
 -- the first of 0 to n - 1 at which the test holds, or n where it holds at none
 abbrev pub find : (ℕ → Bool) → ℕ → ℕ
@@ -31,5 +31,5 @@ abbrev pub found : (ℕ → Bool) → ℕ → Bool
 found test n = ltb (find test n) n
 
 -- how many of 0 to n - 1 pass the test
-unfoldable pub count : (ℕ → Bool) → ℕ → ℕ
-count test n = fold (λ i so-far. cond (test i) (so-far + 1) so-far) 0 n
+unfoldable pub howMany : (ℕ → Bool) → ℕ → ℕ
+howMany test n = fold (λ i so-far. cond (test i) (so-far + 1) so-far) 0 n

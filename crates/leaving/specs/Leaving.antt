@@ -15,17 +15,17 @@ use Rattle.resting.specs.declared.Ended.{Ended}
 use Rattle.leaving.specs.declared.Remains.{Remains}
 
 -- D-06, D-07: the order of this place is in the list
-abbrev pub stays : List ℕ → ℕ → Place → Bool
-stays list n place = isListed list n (place .order)
+abbrev pub staysAmong : List ℕ → ℕ → Place → Bool
+staysAmong list n place = isListed list n (place .order)
 
 -- D-07, K-11: the words that the list has for it
 abbrev pub bodyIn : Order → Body
 bodyIn order = bodyOf (order .kind) (order .first) (order .second)
 
 -- D-07: an order present keeps its slot and number and takes the new words; D-06: the slot of one absent is free
-unfoldable pub keptPlace : List ℕ → ℕ → Place → Place
-keptPlace list n place =
-    cond (stays list n place)
+unfoldable pub keptAmong : List ℕ → ℕ → Place → Place
+keptAmong list n place =
+    cond (staysAmong list n place)
     (record {
       order = place .order;
       slot = record { number = place .slot .number; body = bodyIn (orderAt list (listedAt list n (place .order))) };
@@ -34,16 +34,16 @@ keptPlace list n place =
 
 -- D-06: a live order absent from the list has ended
 abbrev pub ends : List ℕ → ℕ → Place → Bool
-ends list n place = not (isFree place) && not (stays list n place)
+ends list n place = not (isFree place) && not (staysAmong list n place)
 
 -- D-06, D-12: its number, with the step in which it ended
 unfoldable pub endedEntry : List ℕ → ℕ → ℕ → Place → Ended
 endedEntry list n step place = cond (ends list n place) (record { number = place .slot .number; step = step }) noneEnded
 
 -- A-05, A-40: the numbers that ended in this step stand in front, by slot, and the oldest twenty are dropped
-unfoldable pub endedNumbers : List ℕ → ℕ → ℕ → List Place → List Ended → List Ended
-endedNumbers list n step places ended = take (length ended) (map (endedEntry list n step) places ++ ended)
+unfoldable pub endedAmong : List ℕ → ℕ → ℕ → List Place → List Ended → List Ended
+endedAmong list n step places ended = take (length ended) (map (endedEntry list n step) places ++ ended)
 
 -- D-06, D-07, D-12: what the step leaves: the places of those that stay, and the numbers that have ended
 unfoldable pub remainsOf : List ℕ → ℕ → ℕ → List Place → List Ended → Remains
-remainsOf list n step places ended = record { places = map (keptPlace list n) places; ended = endedNumbers list n step places ended }
+remainsOf list n step places ended = record { places = map (keptAmong list n) places; ended = endedAmong list n step places ended }

@@ -4,7 +4,7 @@ ghost use mathlib.Core.List.{map};
 ghost use mathlib.Core.Path.{_≡_};
 ghost use Prim.Native.Nat.{_<_};
 ghost use Rattle.order_list.specs.Lists.{listedAt, numbersOf};
-ghost use Rattle.leaving.specs.Leaving.{keptPlace, endedEntry, endedNumbers, remainsOf};
+ghost use Rattle.leaving.specs.Leaving.{keptAmong, endedEntry, endedAmong, remainsOf};
 use condition::SLOTS;
 use condition::Slot;
 use places::Place;
@@ -35,7 +35,7 @@ struct Fate {
 // An order in the list keeps its slot and number and takes the new words. Any other leaves a free place, and its number has ended.
 fn fate_of(numbers: &[u32; 20], list: &[u8], n: u8, step: u16, place: Place) -> Fate
     requires { ⌜ now numbers ≡ numbersOf (now list) ⌝ }
-    ensures { λ r. ⌜ (r .place ≡ keptPlace (now (list .entry)) n place) × (r .ended ≡ endedEntry (now (list .entry)) n step place) ⌝ }
+    ensures { λ r. ⌜ (r .place ≡ keptAmong (now (list .entry)) n place) × (r .ended ≡ endedEntry (now (list .entry)) n step place) ⌝ }
 {
     let at = listed(numbers, list, n, place.order);
     if at < n {
@@ -101,7 +101,7 @@ pub fn leave(list: &[u8], n: u8, step: u16, places: [Place; 20], ended: [Ended; 
 
 // The places of the orders that stay.
 pub fn kept_places(list: &[u8], n: u8, places: [Place; 20]) -> [Place; 20]
-    ensures { λ r. ⌜ r ≡ map (keptPlace (now (list .entry)) n) places ⌝ }
+    ensures { λ r. ⌜ r ≡ map (keptAmong (now (list .entry)) n) places ⌝ }
 {
     let none = Ended::none();
     let left = leave(list, n, 0, places, [none; 160]);
@@ -116,7 +116,7 @@ pub fn ended_numbers(
     places: [Place; 20],
     ended: [Ended; 160],
 ) -> [Ended; 160]
-    ensures { λ r. ⌜ r ≡ endedNumbers (now (list .entry)) n step places ended ⌝ }
+    ensures { λ r. ⌜ r ≡ endedAmong (now (list .entry)) n step places ended ⌝ }
 {
     let left = leave(list, n, step, places, ended);
     left.ended

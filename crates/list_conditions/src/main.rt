@@ -8,7 +8,7 @@ ghost use mathlib.Core.Path.{_≡_};
 ghost use Prim.Native.Nat.{_≤_};
 ghost use lib.ListN.{length};
 ghost use Rattle.kit.specs.Put.{Put, Poured};
-ghost use Rattle.lister.specs.Pieces.{takeOf, linesOf, Made};
+ghost use Rattle.lister.specs.Pieces.{takeOf, pieceLines, MadeByPieces};
 ghost use Rattle.listing_lines.specs.Lines.{headerLine};
 ghost use Rattle.listing.specs.Listings.{endOf};
 ghost use Rattle.listing_room.specs.Rooms.{pieceRoom, linesRoom, headerRoom, endRoom};
@@ -51,15 +51,15 @@ fn show_header() {
 
 // Puts the lines of one piece. It asks for the sizes for which it is proved that all of them have room (listing_room/proofs/Room.antt).
 fn put_piece(lister: Lister, piece: &[u8], out: &mut [u8]) -> Listed
-    requires { ⌜ Made lister × (length (now piece) ≤ pieceRoom) × (length (now out) ≡ linesRoom) ⌝ }
-    ensures { λ r. ⌜ (r .lister ≡ takeOf lister (now (piece .entry))) × Poured (now (out .entry)) 0 (linesOf lister (now (piece .entry))) (now (out .exit)) (r .at) ⌝ }
+    requires { ⌜ MadeByPieces lister × (length (now piece) ≤ pieceRoom) × (length (now out) ≡ linesRoom) ⌝ }
+    ensures { λ r. ⌜ (r .lister ≡ takeOf lister (now (piece .entry))) × Poured (now (out .entry)) 0 (pieceLines lister (now (piece .entry))) (now (out .exit)) (r .at) ⌝ }
 {
     lister.take(piece, out, 0)
 }
 
 // Writes the lines of one piece.
 fn show_piece(lister: Lister, piece: &[u8], out: &mut [u8]) -> Lister
-    requires { ⌜ Made lister × (length (now piece) ≤ pieceRoom) × (length (now out) ≡ linesRoom) ⌝ }
+    requires { ⌜ MadeByPieces lister × (length (now piece) ≤ pieceRoom) × (length (now out) ≡ linesRoom) ⌝ }
     ensures { λ r. ⌜ r ≡ takeOf lister (now (piece .entry)) ⌝ }
 {
     let listed = put_piece(lister, piece, out);
@@ -71,7 +71,7 @@ fn show_piece(lister: Lister, piece: &[u8], out: &mut [u8]) -> Lister
 
 // Puts the line of a short tail and the last line, all of both: the buffer has the size for which that is proved.
 fn put_end(lister: Lister, out: &mut [u8]) -> usize
-    requires { ⌜ Made lister × (length (now out) ≡ endRoom) ⌝ }
+    requires { ⌜ MadeByPieces lister × (length (now out) ≡ endRoom) ⌝ }
     ensures { λ r. ⌜ Put (now (out .entry)) 0 (endOf lister) (now (out .exit)) r ⌝ }
 {
     listing::finish(lister, out, 0)
@@ -79,7 +79,7 @@ fn put_end(lister: Lister, out: &mut [u8]) -> usize
 
 // Writes them.
 fn show_end(lister: Lister)
-    requires { ⌜ Made lister ⌝ }
+    requires { ⌜ MadeByPieces lister ⌝ }
 {
     let mut out = [0u8; 64];
     let n = put_end(lister, &mut out);

@@ -8,16 +8,16 @@ use lib.Seq.{sets, length-sets}
 use native.Mathlib.Omega.{arith}
 use Rattle.kit.specs.Put.{Put}
 use Rattle.kit.proofs.Put.{put-then, put-whole}
-use Rattle.condition.specs.Slots.{slots}
+use Rattle.condition.specs.Slots.{slotCount}
 use Rattle.telegram.specs.Tables.{packets}
-use Rattle.memory.specs.Memory.{room, slotRoom, marksFrom, lastFrom, stepFrom, flagByte, tableBytes, pictureIn, marksIn, withMarks}
+use Rattle.memory.specs.Memory.{memorySize, slotRoom, marksFrom, lastFrom, stepFrom, flagByte, tableBytes, pictureIn, marksIn, withMarks}
 use Rattle.memory.proofs.Slots.{table-same, flags-same, same-out}
 use Rattle.memory.proofs.Back.{table-length, table-back}
 use Rattle.hand.specs.Lent.{handIn, handBytes}
 use Rattle.hand.proofs.Lent.{Below, hand-length, hand-back}
 use Rattle.last_step.specs.Lent.{lastIn, lastBytes}
 use Rattle.last_step.proofs.Lent.{last-length, last-back}
-use Rattle.listener.specs.Lent.{listenerIn, bytesOf}
+use Rattle.listener.specs.Lent.{listenerIn, listenerBytes}
 use Rattle.listener.specs.declared.Listener.{Listener}
 use Rattle.listener.proofs.Shifted.{picture-below, marks-below, last-below, own-marks, marked-long}
 
@@ -25,14 +25,14 @@ use Rattle.listener.proofs.Shifted.{picture-below, marks-below, last-be
 
 -- as many slots, marks and packets as there are: of a listener by value its type says so
 pub record Sized (listener : Listener) : Type 0 where
-  pub picture : length (listener .picture) ≡ slots
-  pub marks : length (listener .marks) ≡ slots
+  pub picture : length (listener .picture) ≡ slotCount
+  pub marks : length (listener .marks) ≡ slotCount
   pub held : length (listener .hand .held) ≡ packets
-  pub set : length (listener .hand .slots) ≡ slots
+  pub set : length (listener .hand .slots) ≡ slotCount
 
 module _ (listener : Listener) (sized : Sized listener) where
   abbrev blank-memory : List ℕ
-  blank-memory = replicate room 0
+  blank-memory = replicate memorySize 0
 
   abbrev with-picture : List ℕ
   with-picture = sets blank-memory 0 (tableBytes (listener .picture))
@@ -58,23 +58,23 @@ module _ (listener : Listener) (sized : Sized listener) where
   hand-size : length (handBytes (listener .hand)) ≡ 147
   hand-size = hand-length (listener .hand) (sized .held)
 
-  long-blank : length blank-memory ≡ room
-  long-blank = length-replicate {A = ℕ} room 0
+  long-blank : length blank-memory ≡ memorySize
+  long-blank = length-replicate {A = ℕ} memorySize 0
 
-  long-picture : length with-picture ≡ room
+  long-picture : length with-picture ≡ memorySize
   long-picture = length-sets blank-memory 0 (tableBytes (listener .picture)) ∙ long-blank
 
-  long-marks : length with-marks ≡ room
+  long-marks : length with-marks ≡ memorySize
   long-marks = marked-long with-picture long-picture (listener .marks)
 
-  long-last : length with-last ≡ room
+  long-last : length with-last ≡ memorySize
   long-last = length-sets with-marks lastFrom (lastBytes (listener .last)) ∙ long-marks
 
   -- its parts one after another are its bytes
-  pub built : with-hand ≡ bytesOf listener
-  unfolding withMarks bytesOf
+  pub built : with-hand ≡ listenerBytes listener
+  unfolding withMarks listenerBytes
   built =
-      let bytes : length (bytesOf listener) ≡ room =
+      let bytes : length (listenerBytes listener) ≡ memorySize =
       omega (
         arith,
         picture-size,
@@ -97,17 +97,17 @@ module _ (listener : Listener) (sized : Sized listener) where
       let below : Below with-hand with-last = same-out (handBytes (listener .hand)) with-last stepFrom stepFrom 0 (inl (omega arith)) in
       let picture : pictureIn with-hand ≡ listener .picture =
       picture-below with-hand with-last below
-      ∙ (table-same with-last with-marks 0 0 (same-out (lastBytes (listener .last)) with-marks lastFrom (slotRoom * slots) 0 (inl (omega arith)))
-      ∙ (table-same with-marks with-picture 0 0 (same-out (map flagByte (listener .marks)) with-picture marksFrom (slotRoom * slots) 0 (inl (omega arith)))
+      ∙ (table-same with-last with-marks 0 0 (same-out (lastBytes (listener .last)) with-marks lastFrom (slotRoom * slotCount) 0 (inl (omega arith)))
+      ∙ (table-same with-marks with-picture 0 0 (same-out (map flagByte (listener .marks)) with-picture marksFrom (slotRoom * slotCount) 0 (inl (omega arith)))
       ∙ table-back (listener .picture) blank-memory 0 (sized .picture) (omega (arith, long-blank)))) in
       let marks : marksIn with-hand ≡ listener .marks =
       marks-below with-hand with-last below
-      ∙ (flags-same with-last with-marks marksFrom marksFrom slots (same-out (lastBytes (listener .last)) with-marks lastFrom slots marksFrom (inl (omega arith)))
+      ∙ (flags-same with-last with-marks marksFrom marksFrom slotCount (same-out (lastBytes (listener .last)) with-marks lastFrom slotCount marksFrom (inl (omega arith)))
       ∙ own-marks with-picture long-picture (listener .marks) (sized .marks)) in
       let last : lastIn with-hand ≡ listener .last = last-below with-hand with-last below ∙ last-back with-marks long-marks (listener .last) in
       let hand : handIn with-hand ≡ listener .hand = hand-back (listener .hand) (sized .held) with-last long-last (sized .set) in
       λ t. record { picture = picture t; marks = marks t; last = last t; hand = hand t }
 
   -- and the memory that has them means the listener
-  pub means-back : listenerIn (bytesOf listener) ≡ listener
+  pub means-back : listenerIn (listenerBytes listener) ≡ listener
   means-back = ap listenerIn (sym built) ∙ parts-back

@@ -7,7 +7,7 @@ use lib.ListN.{replicate}
 use Rattle.kit.proofs.Cases.{on}
 use Rattle.kit.proofs.Maps.{replicate-at}
 use Rattle.kit.proofs.Stores.{sets-each}
-use Rattle.condition.specs.Slots.{emptySlot, slots}
+use Rattle.condition.specs.Slots.{emptySlot, slotCount}
 use Rattle.condition.specs.declared.slots.Slot.{Slot}
 use Rattle.wire.specs.declared.verdicts.Verdict.{Verdict}
 use Rattle.wire.specs.declared.verdicts.Verdict.the-variants.{Accepted, Refused}
@@ -36,8 +36,8 @@ pub record Every (P : Slot → Type 0) (listener : Listener) : Type 0 where
   pub hand : AllOf P (listener .hand .slots)
 
 module _ (P : Slot → Type 0) (empty : P emptySlot) where
-  none-every : AllOf P (replicate slots emptySlot)
-  none-every i = subst P (sym (replicate-at slots i emptySlot)) empty
+  none-every : AllOf P (replicate slotCount emptySlot)
+  none-every i = subst P (sym (replicate-at slotCount i emptySlot)) empty
 
   begun-every : (step : ℕ) → AllOf P (begun step .slots)
   unfolding begun

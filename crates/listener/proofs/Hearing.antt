@@ -7,7 +7,7 @@ use mathlib.Core.Bool.{true, false, not}
 use lib.ListN.{replicate}
 use Rattle.kit.proofs.Ladder.{ladder-decides, ladder-silent}
 use Rattle.kit.proofs.Maps.{replicate-at}
-use Rattle.condition.specs.Slots.{slots, emptySlot}
+use Rattle.condition.specs.Slots.{slotCount, emptySlot}
 use Rattle.wire.specs.declared.verdicts.Verdict.the-variants.{Accepted, Refused}
 use Rattle.telegram.specs.declared.Reading.{Reading}
 use Rattle.telegram.specs.declared.Telegram.{Telegram}
@@ -69,7 +69,7 @@ module _ (limit : ℕ) (listener : Listener) where
         heard-taken c d = ladder-silent _ _ (a, (b, (ap not c, (d, tt))))
 
 -- A-20: a fresh listener: an empty picture with no mark, no step taken, no set in hand
-pub fresh-picture : freshListener .picture ≡ replicate slots emptySlot
+pub fresh-picture : freshListener .picture ≡ replicate slotCount emptySlot
 unfolding freshListener
 fresh-picture = refl
 
@@ -83,7 +83,7 @@ fresh-hand = refl
 
 pub fresh-unmarked : (i : ℕ) → markAt (freshListener .marks) i ≡ false
 unfolding freshListener
-fresh-unmarked i = replicate-at slots i false
+fresh-unmarked i = replicate-at slotCount i false
 
 -- L-04 to L-07: a listener that has taken a set
 module _ (limit : ℕ) (listener : Listener) (set : Hand) where

@@ -10,14 +10,14 @@ use borrow.Author.Tests.{ne-eqb}
 use Rattle.kit.proofs.Cases.{on, clash}
 use Rattle.kit.proofs.Ladder.{refused-exactly, decides-such}
 use Rattle.kit.proofs.Maps.{replicate-at}
-use Rattle.condition.specs.Slots.{slots}
+use Rattle.condition.specs.Slots.{slotCount}
 use Rattle.condition.specs.declared.slots.Slot.{Slot}
 use Rattle.wire.specs.declared.verdicts.Verdict.the-variants.{Accepted, Refused as refusedBy}
 use Rattle.telegram.specs.Tables.{packets, firstPacket}
-use Rattle.telegram.specs.Telegrams.{packetIn, stepIn, telegramOf, readRows, readRefusal, blank}
+use Rattle.telegram.specs.Telegrams.{packetIn, stepIn, telegramOf, readRows, readRefusal, blankTelegram}
 use Rattle.telegram.specs.declared.Telegram.{Telegram}
 use Rattle.telegram.proofs.Rows.{read-refused, read-accepted, read-numbered, read-to-14}
-use Rattle.memory.specs.Memory.{room, setFrom, pictureIn, setIn}
+use Rattle.memory.specs.Memory.{memorySize, setFrom, pictureIn, setIn}
 use Rattle.memory.proofs.Slots.{length-table}
 use Rattle.picture.specs.Pictures.{countOf, clashes}
 use Rattle.marks.specs.Marks.{isCarried, marksOf}
@@ -66,7 +66,7 @@ module _ (memory : List ℕ) (step : ℕ) where
 
 -- ---- a telegram that goes into a set
 
-marks-length : (limit gap : ℕ) (before table : List Slot) → length table ≡ slots → length (marksOf limit gap before table) ≡ slots
+marks-length : (limit gap : ℕ) (before table : List Slot) → length table ≡ slotCount → length (marksOf limit gap before table) ≡ slotCount
 unfolding marksOf
 marks-length limit gap before table n = length-map table (isCarried limit gap before) ∙ n
 
@@ -87,7 +87,7 @@ module _ (memory telegram : List ℕ) (whole : length telegram ≡ 26) (packet :
   left-last last = record { meant = sym (heard-last carries before t last); bytes = refl }
 
   -- `base` is the memory with the set that it goes into
-  module _ (base : List ℕ) (long : length base ≡ room) (for : base ≡ memoryFor memory (stepIn telegram)) (below : Below base memory)
+  module _ (base : List ℕ) (long : length base ≡ memorySize) (for : base ≡ memoryFor memory (stepIn telegram)) (below : Below base memory)
       (own : handIn base ≡ setFor (handIn memory) (stepIn telegram)) (later : isLast (lastIn memory) (stepIn telegram) ≡ false)
       (free : isHeld (handIn base) (packetIn telegram) ≡ false) where
     abbrev after : List ℕ
@@ -96,7 +96,7 @@ module _ (memory telegram : List ℕ) (whole : length telegram ≡ 26) (packet :
     abbrev with-it : Hand
     with-it = joined (setFor (before .hand) (t .step)) t
 
-    after-long : length after ≡ room
+    after-long : length after ≡ memorySize
     after-long = joined-length base telegram ∙ long
 
     after-below : Below after memory
@@ -147,7 +147,7 @@ module _ (memory telegram : List ℕ) (whole : length telegram ≡ 26) (packet :
     taken-means =
         let gap : ℕ = gapFrom (lastIn after) (handIn after .step) in
         let marks : List Bool = marksOf carries gap (pictureIn after) (setIn after) in
-        let all : length marks ≡ slots = marks-length carries gap (pictureIn after) (setIn after) (length-table after setFrom) in
+        let all : length marks ≡ slotCount = marks-length carries gap (pictureIn after) (setIn after) (length-table after setFrom) in
         ap (λ l. record { told = takenAs (handIn after .step) (countOf (setIn after)) gap; listener = l }) (shifted-means after (handIn after .step) marks after-long all)
         ∙ (λ i. record {
           told = takenAs (handIn after .step) (countOf (setIn after)) (gapFrom (last-below after memory after-below i) (handIn after .step));
@@ -182,7 +182,7 @@ module _ (memory telegram : List ℕ) (whole : length telegram ≡ 26) (packet :
 
   -- ---- the ways of a telegram that the reader accepts
 
-  module _ (long : length memory ≡ room) (later : isLast (lastIn memory) (stepIn telegram) ≡ false) where
+  module _ (long : length memory ≡ memorySize) (later : isLast (lastIn memory) (stepIn telegram) ≡ false) where
     module _ (same : eqb (handIn memory .step) (stepIn telegram) ≡ true) where
       -- a second copy
       pub left-copy : isHeld (handIn memory) (packetIn telegram) ≡ true → Listened asRepeat memory
@@ -286,7 +286,7 @@ module _ (memory telegram : List ℕ) where
         meant =
             sym
             (ap (hearOf carries (listenerIn memory)) (read-refused telegram refusal e n)
-            ∙ hear-refused carries (listenerIn memory) (record { verdict = refusedBy refusal; telegram = blank }) refusal refl);
+            ∙ hear-refused carries (listenerIn memory) (record { verdict = refusedBy refusal; telegram = blankTelegram }) refusal refl);
         bytes = sym (ap (λ b. cond b (begunIn (withIt memory telegram) 0) memory) (ne-eqb refusal 15 (not-fifteen refusal e n)));
       }
 

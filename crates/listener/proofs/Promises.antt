@@ -5,7 +5,7 @@ use mathlib.Core.Path.{_≡_, refl, sym, ap, _∙_, subst}
 use mathlib.Core.Logic.{_⊎_, inl, inr, _↔_}
 use mathlib.Core.List.{List}
 use native.Mathlib.Omega.{arith}
-use Rattle.kit.specs.Ladder.{ladder, Decides, Silent, Numbered}
+use Rattle.kit.specs.Ladder.{ladder, Decides, NoneHolds, Numbered}
 use Rattle.kit.proofs.Cases.{on, given}
 use Rattle.kit.proofs.Ladder.{ladder-decides, ladder-silent, climb, ladder-append, decides-append, numbered-append, decides-such, decides-positive, refused-exactly}
 use Rattle.telegram.specs.Telegrams.{readRows, readOf}
@@ -60,7 +60,7 @@ module _ (limit : ℕ) (listener : Listener) where
     pub number-given : heard .told .number ≡ ladder 0 (hearRows listener bytes)
     number-given = go (climb 0 (readRows bytes))
       where
-        go : Decides (readRows bytes) (ladder 0 (readRows bytes)) ⊎ Silent (readRows bytes) → heard .told .number ≡ ladder 0 (hearRows listener bytes)
+        go : Decides (readRows bytes) (ladder 0 (readRows bytes)) ⊎ NoneHolds (readRows bytes) → heard .told .number ≡ ladder 0 (hearRows listener bytes)
         go (inl d) =
             let number : ℕ = ladder 0 (readRows bytes) in
             ap (λ (h : Hearing). h .told .number) (hear-refused limit listener (readOf bytes) number (reading-refused bytes number .1 d))
@@ -77,7 +77,7 @@ module _ (limit : ℕ) (listener : Listener) where
     positive : (number : ℕ) → heard .told ≡ refusedAs number → 1 ≤ number
     positive number e = go (climb 0 (readRows bytes))
       where
-        go : Decides (readRows bytes) (ladder 0 (readRows bytes)) ⊎ Silent (readRows bytes) → 1 ≤ number
+        go : Decides (readRows bytes) (ladder 0 (readRows bytes)) ⊎ NoneHolds (readRows bytes) → 1 ≤ number
         go (inl d) =
             let own : refusedAs (ladder 0 (readRows bytes)) ≡ refusedAs number =
             sym (ap (λ (h : Hearing). h .told) (hear-refused limit listener (readOf bytes) (ladder 0 (readRows bytes)) (reading-refused bytes (ladder 0 (readRows bytes)) .1 d))) ∙ e in
@@ -92,7 +92,7 @@ module _ (limit : ℕ) (listener : Listener) where
     refused-unchanged number d = hear-refused limit listener (readOf bytes) number (reading-refused bytes number .1 d)
 
     -- L-09, L-10: 15 drops the set in hand; picture, marks and last step stay
-    pub clash-drops : Silent (readRows bytes) → Decides (clashRow listener (readOf bytes .telegram)) 15 → heard ≡ record { told = refusedAs 15; listener = holding listener (begun 0) }
+    pub clash-drops : NoneHolds (readRows bytes) → Decides (clashRow listener (readOf bytes .telegram)) 15 → heard ≡ record { told = refusedAs 15; listener = holding listener (begun 0) }
     clash-drops s d =
         hear-as limit listener (readOf bytes) (reading-accepted bytes .1 s)
         ∙ ways (readOf bytes .telegram) (λ h n. n ≡ 15 → h ≡ record { told = refusedAs 15; listener = holding listener (begun 0) })
@@ -106,20 +106,20 @@ module _ (limit : ℕ) (listener : Listener) where
       λ d. go (decides-append (readRows bytes) (clashRow listener (readOf bytes .telegram)) number d),
     )
       where
-        go : Decides (readRows bytes) number ⊎ (Silent (readRows bytes) × Decides (clashRow listener (readOf bytes .telegram)) number) → heard .told ≡ refusedAs number
+        go : Decides (readRows bytes) number ⊎ (NoneHolds (readRows bytes) × Decides (clashRow listener (readOf bytes .telegram)) number) → heard .told ≡ refusedAs number
         go (inl d) = ap (λ (h : Hearing). h .told) (refused-unchanged number d)
         go (inr (s, inl (holds, own))) = ap (λ (h : Hearing). h .told) (clash-drops s (inl (holds, refl))) ∙ ap refusedAs own
         go (inr (s, inr (holds, none))) = absurd none
 
     -- which of the two it was
-    by-whom : (number : ℕ) → heard .told ≡ refusedAs number → Decides (readRows bytes) number ⊎ (Silent (readRows bytes) × Decides (clashRow listener (readOf bytes .telegram)) number)
+    by-whom : (number : ℕ) → heard .told ≡ refusedAs number → Decides (readRows bytes) number ⊎ (NoneHolds (readRows bytes) × Decides (clashRow listener (readOf bytes .telegram)) number)
     by-whom number e = decides-append (readRows bytes) (clashRow listener (readOf bytes .telegram)) number (refused-when number .0 e)
 
     -- M-1f, L-11, R-24: so a refusal under another number than 15 changes nothing
     pub others-unchanged : (number : ℕ) → (number ≡ 15 → ⊥) → heard .told ≡ refusedAs number → heard .listener ≡ listener
     others-unchanged number other e = go (by-whom number e)
       where
-        go : Decides (readRows bytes) number ⊎ (Silent (readRows bytes) × Decides (clashRow listener (readOf bytes .telegram)) number) → heard .listener ≡ listener
+        go : Decides (readRows bytes) number ⊎ (NoneHolds (readRows bytes) × Decides (clashRow listener (readOf bytes .telegram)) number) → heard .listener ≡ listener
         go (inl d) = ap (λ (h : Hearing). h .listener) (refused-unchanged number d)
         go (inr (s, inl (holds, own))) = absurd (other (sym own))
         go (inr (s, inr (holds, none))) = absurd none
@@ -128,6 +128,6 @@ module _ (limit : ℕ) (listener : Listener) where
     pub fifteen-drops : heard .told ≡ refusedAs 15 → heard .listener ≡ holding listener (begun 0)
     fifteen-drops e = go (by-whom 15 e)
       where
-        go : Decides (readRows bytes) 15 ⊎ (Silent (readRows bytes) × Decides (clashRow listener (readOf bytes .telegram)) 15) → heard .listener ≡ holding listener (begun 0)
+        go : Decides (readRows bytes) 15 ⊎ (NoneHolds (readRows bytes) × Decides (clashRow listener (readOf bytes .telegram)) 15) → heard .listener ≡ holding listener (begun 0)
         go (inl d) = let low = decides-such (λ n. n ≤ 14) (readRows bytes) 15 (read-to-14 bytes) d in absurd (omega arith)
         go (inr (s, d)) = ap (λ (h : Hearing). h .listener) (clash-drops s d)

@@ -25,8 +25,8 @@ unfoldable pub listenerIn : List ℕ → Listener
 listenerIn memory = record { picture = pictureIn memory; marks = marksIn memory; last = lastIn memory; hand = handIn memory }
 
 -- its bytes
-unfoldable pub bytesOf : Listener → List ℕ
-bytesOf listener =
+unfoldable pub listenerBytes : Listener → List ℕ
+listenerBytes listener =
     tableBytes (listener .picture)
     ++ (map flagByte (listener .marks) ++ (lastBytes (listener .last) ++ handBytes (listener .hand)))
 

@@ -22,7 +22,7 @@ use mathlib.Core.Bool.{Bool, false, not, _&&_}
 use mathlib.Core.List.{List, [], _∷_, _++_}
 use lib.ListN.{getD, replicate}
 use Rattle.kit.specs.Ladder.{ladder}
-use Rattle.condition.specs.Slots.{emptySlot, slots}
+use Rattle.condition.specs.Slots.{emptySlot, slotCount}
 use Rattle.wire.specs.declared.verdicts.Verdict.{Verdict}
 use Rattle.wire.specs.declared.verdicts.Verdict.the-variants.{Accepted, Refused}
 use Rattle.telegram.specs.Telegrams.{readRows, readOf}
@@ -44,7 +44,7 @@ carries = 8
 -- A-20: a fresh listener: an empty picture, no step taken, and no set in hand. The set of step 0 with nothing in it stands for that:
 -- it is how a set of step 0 begins, and any other step number drops it.
 unfoldable pub freshListener : Listener
-freshListener = record { picture = replicate slots emptySlot; marks = replicate slots false; last = Never; hand = begun 0 }
+freshListener = record { picture = replicate slotCount emptySlot; marks = replicate slotCount false; last = Never; hand = begun 0 }
 
 -- L-03: the listener with another set in hand
 abbrev pub holding : Listener → Hand → Listener
@@ -52,17 +52,17 @@ holding listener hand = record { picture = listener .picture; marks = listener .
 
 -- L-04 to L-07: the listener that has taken a whole set: the set is the picture, each entry carried or new, and no set is in hand
 unfoldable pub takenBy : ℕ → Listener → Hand → Listener
-takenBy limit listener set =
+takenBy limit listener hand =
     record {
-      picture = set .slots;
-      marks = marksOf limit (gapFrom (listener .last) (set .step)) (listener .picture) (set .slots);
-      last = Step (set .step);
+      picture = hand .slots;
+      marks = marksOf limit (gapFrom (listener .last) (hand .step)) (listener .picture) (hand .slots);
+      last = Step (hand .step);
       hand = begun 0;
     }
 
 -- L-04, L-05, C-09: what is told then: step number, conditions and gap
 abbrev pub toldOfTable : Listener → Hand → Told
-toldOfTable listener set = takenAs (set .step) (countOf (set .slots)) (gapFrom (listener .last) (set .step))
+toldOfTable listener hand = takenAs (hand .step) (countOf (hand .slots)) (gapFrom (listener .last) (hand .step))
 
 -- L-01: a telegram of the step last taken is a repeat and changes nothing
 -- L-02: so is a second copy of a packet already held for the set in hand; the first stands
@@ -71,11 +71,11 @@ toldOfTable listener set = takenAs (set .step) (countOf (set .slots)) (gapFrom (
 -- L-04: otherwise the table is taken
 unfoldable pub heardOf : ℕ → Listener → Telegram → Hearing
 heardOf limit listener t =
-    let set = setFor (listener .hand) (t .step) in
-    let with-it = joined set t in
+    let own = setFor (listener .hand) (t .step) in
+    let with-it = joined own t in
     ladder (record { told = toldOfTable listener with-it; listener = takenBy limit listener with-it })
     ((isLast (listener .last) (t .step), record { told = asRepeat; listener = listener })
-    ∷ (isHeld set (t .packet), record { told = asRepeat; listener = listener })
+    ∷ (isHeld own (t .packet), record { told = asRepeat; listener = listener })
     ∷ (not (isWhole with-it), record { told = asHeld; listener = holding listener with-it })
     ∷ (clashes (with-it .slots), record { told = refusedAs 15; listener = holding listener (begun 0) })
     ∷ [])
@@ -99,9 +99,9 @@ heardAll limit (bytes ∷ earlier) = hearOf limit (heardAll limit earlier) (read
 -- R-15, R-21: number twice across the set, judged last: of a telegram that is no repeat and the fifth of its set
 abbrev pub clashRow : Listener → Telegram → List (Bool × ℕ)
 clashRow listener t =
-    let set = setFor (listener .hand) (t .step) in
-    let with-it = joined set t in
-    (not (isLast (listener .last) (t .step)) && (not (isHeld set (t .packet)) && (isWhole with-it && clashes (with-it .slots))), 15) ∷ []
+    let own = setFor (listener .hand) (t .step) in
+    let with-it = joined own t in
+    (not (isLast (listener .last) (t .step)) && (not (isHeld own (t .packet)) && (isWhole with-it && clashes (with-it .slots))), 15) ∷ []
 
 -- R-20, R-21: hearing: 10, 11, then the first bad slot, within it 12, 13, 6, 14; 15 last
 abbrev pub hearRows : Listener → List ℕ → List (Bool × ℕ)

@@ -13,7 +13,7 @@ ghost use Rattle.hand.specs.Lent.{handIn};
 ghost use Rattle.hand.specs.Sets.{setFor, isHeld};
 ghost use Rattle.listener.specs.Answers.{toldOf, hearingOf};
 ghost use Rattle.listener.specs.Listeners.{carries, freshListener, heardOf, hearOf};
-ghost use Rattle.listener.specs.Lent.{listenerIn, bytesOf, memoryFor, shiftedIn, LeftBy, HeardIn, takenLeft, judgedLeft, addedLeft};
+ghost use Rattle.listener.specs.Lent.{listenerIn, listenerBytes, memoryFor, shiftedIn, LeftBy, HeardIn, takenLeft, judgedLeft, addedLeft};
 
 pub struct Listener {
     pub picture: [Slot; 20],
@@ -71,7 +71,7 @@ impl Listener {
 
 // The memory of a listener.
 pub fn memory_of(listener: Listener) -> [u8; 310]
-    ensures { λ r. ⌜ r ≡ bytesOf listener ⌝ }
+    ensures { λ r. ⌜ r ≡ listenerBytes listener ⌝ }
 {
     let mut memory = [0u8; 310];
     let picture = listener.picture;

@@ -6,7 +6,7 @@ use lib.ListN.{length, take, drop, length-append, length-drop}
 use lib.Seq.{take-append-le, drop-append-le, drop-drop, drop-length, take-all}
 use native.Mathlib.Nat.{suc-mul}
 use native.Mathlib.Omega.{arith}
-use Rattle.lister.specs.Hearings.{cut, telegrams, tailOf}
+use Rattle.lister.specs.Hearings.{cut, telegramsIn, tailOf}
 
 cut-front : (n : ℕ) (xs ys : List ℕ) → n * 26 ≤ length xs → cut n (xs ++ ys) ≡ cut n xs
 unfolding cut
@@ -32,8 +32,8 @@ cut-more (suc n) m xs =
 counts : (xs ys : List ℕ) → length (xs ++ ys) / 26 ≡ length xs / 26 + length (drop (length xs / 26 * 26) xs ++ ys) / 26
 counts xs ys = omega (arith, length-append xs ys, length-append (drop (length xs / 26 * 26) xs) ys, length-drop (length xs / 26 * 26) xs)
 
-pub telegrams-then : (xs ys : List ℕ) → telegrams (xs ++ ys) ≡ telegrams xs ++ telegrams (tailOf xs ++ ys)
-unfolding telegrams tailOf
+pub telegrams-then : (xs ys : List ℕ) → telegramsIn (xs ++ ys) ≡ telegramsIn xs ++ telegramsIn (tailOf xs ++ ys)
+unfolding telegramsIn tailOf
 telegrams-then xs ys =
     let n = length xs / 26 in
     let room : n * 26 ≤ length xs = omega arith in
@@ -56,16 +56,16 @@ unfolding tailOf
 tail-short xs = omega (arith, length-drop (length xs / 26 * 26) xs)
 
 -- fewer than 26 bytes are no telegram, and 26 are one
-pub telegrams-none : (xs : List ℕ) → length xs < 26 → telegrams xs ≡ []
-unfolding telegrams cut
+pub telegrams-none : (xs : List ℕ) → length xs < 26 → telegramsIn xs ≡ []
+unfolding telegramsIn cut
 telegrams-none xs p = let e : length xs / 26 ≡ 0 = omega arith in ap (λ k. cut k xs) e
 
 pub tail-all : (xs : List ℕ) → length xs < 26 → tailOf xs ≡ xs
 unfolding tailOf
 tail-all xs p = let e : length xs / 26 * 26 ≡ 0 = omega arith in ap (λ k. drop k xs) e
 
-pub telegrams-one : (xs : List ℕ) → length xs ≡ 26 → telegrams xs ≡ xs ∷ []
-unfolding telegrams cut
+pub telegrams-one : (xs : List ℕ) → length xs ≡ 26 → telegramsIn xs ≡ xs ∷ []
+unfolding telegramsIn cut
 telegrams-one xs p =
     let e : length xs / 26 ≡ 1 = omega arith in
     ap (λ k. cut k xs) e ∙ ap (λ l. l ∷ []) (take-all 26 xs (omega arith))

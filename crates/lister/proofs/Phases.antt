@@ -15,19 +15,19 @@ use Rattle.kit.proofs.Cases.{on}
 use Rattle.kit.proofs.Put.{poured-as, poured-then}
 use Rattle.listener.specs.declared.Listener.{Listener}
 use Rattle.listing_tables.specs.Tables.{heardLines}
-use Rattle.lister.specs.Hearings.{heard, telegrams, tailOf, linesFor}
+use Rattle.lister.specs.Hearings.{heardBy, tailOf, linesFor}
 use Rattle.lister.specs.Lent.{HeardNext}
-use Rattle.lister.specs.Pieces.{padded, keeping, takeOf, linesOf, Made, taken}
+use Rattle.lister.specs.Pieces.{padded, keeping, takeOf, pieceLines, MadeByPieces, takenPiece}
 use Rattle.lister.specs.declared.Lister.{Lister}
 use Rattle.lister.proofs.Kept.{Kept, state, made-kept, joined-kept, take-then, lines-of-then, take-one, lines-one, heard-one, lines-of-one}
 
 -- ---- one part after another
 
 -- a part begins with a state that was made
-pub here : (start : Lister) (bytes : List ℕ) {lister : Lister} → Made start → lister ≡ takeOf start bytes → Made lister
-here start bytes m same = subst⁻¹ Made same (taken m bytes)
+pub here : (start : Lister) (bytes : List ℕ) {lister : Lister} → MadeByPieces start → lister ≡ takeOf start bytes → MadeByPieces lister
+here start bytes m same = subst⁻¹ MadeByPieces same (takenPiece m bytes)
 
-pub lacks : {lister : Lister} → Made lister → lister .kept < 26
+pub lacks : {lister : Lister} → MadeByPieces lister → lister .kept < 26
 lacks m = let kept = made-kept m .1 in omega (arith, kept .short, kept .counted)
 
 -- the bytes of a turn, after those of the turns before
@@ -40,13 +40,13 @@ module _ (start : Lister) (piece : List ℕ) {from to : ℕ} (forth : from ≤ t
       step ∙ (ap (λ (s : Lister). takeOf s (take (to - from) (drop from piece))) same
       ∙ (sym (take-then start (take from piece) (take (to - from) (drop from piece))) ∙ ap (takeOf start) (sym bytes-to)))
 
-  pub lines-again : {lister : Lister} {l m n : List ℕ} {at i j : ℕ} → lister ≡ takeOf start (take from piece) → Poured l at (linesOf start (take from piece)) m i
-      → Poured m i (linesOf lister (take (to - from) (drop from piece))) n j → Poured l at (linesOf start (take to piece)) n j
+  pub lines-again : {lister : Lister} {l m n : List ℕ} {at i j : ℕ} → lister ≡ takeOf start (take from piece) → Poured l at (pieceLines start (take from piece)) m i
+      → Poured m i (pieceLines lister (take (to - from) (drop from piece))) n j → Poured l at (pieceLines start (take to piece)) n j
   lines-again same a b =
       poured-as
-      (ap (linesOf start) bytes-to
+      (ap (pieceLines start) bytes-to
       ∙ (lines-of-then start (take from piece) (take (to - from) (drop from piece))
-      ∙ ap (λ (s : Lister). linesOf start (take from piece) ++ linesOf s (take (to - from) (drop from piece))) (sym same)))
+      ∙ ap (λ (s : Lister). pieceLines start (take from piece) ++ pieceLines s (take (to - from) (drop from piece))) (sym same)))
       (poured-then a b)
 
 -- a piece in two parts
@@ -63,17 +63,17 @@ module _ (start : Lister) (piece : List ℕ) (cut : ℕ) where
       ap (λ (n : ℕ). take n piece ++ second) e
       ∙ (sym (take-add cut (length piece - cut) piece) ∙ take-all (cut + (length piece - cut)) piece (omega arith))
 
-  pub two-parts : cut ≤ length piece → {between end : Lister} {l m n : List ℕ} {at i j : ℕ} → between ≡ takeOf start first → Poured l at (linesOf start first) m i
-      → end ≡ takeOf between second → Poured m i (linesOf between second) n j → (end ≡ takeOf start piece) × Poured l at (linesOf start piece) n j
+  pub two-parts : cut ≤ length piece → {between end : Lister} {l m n : List ℕ} {at i j : ℕ} → between ≡ takeOf start first → Poured l at (pieceLines start first) m i
+      → end ≡ takeOf between second → Poured m i (pieceLines between second) n j → (end ≡ takeOf start piece) × Poured l at (pieceLines start piece) n j
   two-parts p {between} a al b bl = (
     b ∙ (ap (λ s. takeOf s second) a ∙ (sym (take-then start first second) ∙ ap (takeOf start) (both p))),
-    poured-as (ap (linesOf start) (sym (both p)) ∙ (lines-of-then start first second ∙ ap (λ s. linesOf start first ++ linesOf s second) (sym a))) (poured-then al bl),
+    poured-as (ap (pieceLines start) (sym (both p)) ∙ (lines-of-then start first second ∙ ap (λ s. pieceLines start first ++ pieceLines s second) (sym a))) (poured-then al bl),
   )
 
 -- ---- where no telegram is begun
 
 -- then nothing is kept
-pub none-begun : {lister : Lister} → Made lister → lister .kept ≡ 0 → Kept lister []
+pub none-begun : {lister : Lister} → MadeByPieces lister → lister .kept ≡ 0 → Kept lister []
 none-begun {lister} m e = go (made-kept m .0) (made-kept m .1)
   where
     go : (bytes : List ℕ) → Kept lister bytes → Kept lister []
@@ -81,23 +81,23 @@ none-begun {lister} m e = go (made-kept m .0) (made-kept m .1)
     go (b ∷ more) k = absurd (omega (arith, k .counted, e))
 
 -- one telegram heard, as the memory and the count have it
-pub next-heard : (lister : Lister) (telegram : List ℕ) (before after : Listener) (tables : ℕ) → before ≡ lister .listener → HeardNext (heard before telegram) (lister .tables) after tables
+pub next-heard : (lister : Lister) (telegram : List ℕ) (before after : Listener) (tables : ℕ) → before ≡ lister .listener → HeardNext (heardBy before telegram) (lister .tables) after tables
     → state after tables (padded []) 0 ≡ keeping lister (telegram ∷ []) []
 next-heard lister telegram before after tables same next =
-    let n : HeardNext (heard (lister .listener) telegram) (lister .tables) after tables = subst (λ l. HeardNext (heard l telegram) (lister .tables) after tables) same next in
+    let n : HeardNext (heardBy (lister .listener) telegram) (lister .tables) after tables = subst (λ l. HeardNext (heardBy l telegram) (lister .tables) after tables) same next in
     ap (λ l. state l tables (padded []) 0) (n .means) ∙ heard-one lister telegram refl refl (n .counts)
 
-pub next-lines : (lister : Lister) (telegram : List ℕ) (before : Listener) → before ≡ lister .listener → linesFor (lister .listener) (telegram ∷ []) ≡ heardLines (heard before telegram)
-next-lines lister telegram before same = lines-of-one (lister .listener) telegram ∙ ap (λ l. heardLines (heard l telegram)) (sym same)
+pub next-lines : (lister : Lister) (telegram : List ℕ) (before : Listener) → before ≡ lister .listener → linesFor (lister .listener) (telegram ∷ []) ≡ heardLines (heardBy before telegram)
+next-lines lister telegram before same = lines-of-one (lister .listener) telegram ∙ ap (λ l. heardLines (heardBy l telegram)) (sym same)
 
 -- the same where none is begun: the telegram is a piece
 module _ {lister : Lister} (k : Kept lister []) (telegram : List ℕ) (whole : length telegram ≡ 26) where
-  pub whole-taken : (after : Listener) (tables : ℕ) → HeardNext (heard (lister .listener) telegram) (lister .tables) after tables
+  pub whole-taken : (after : Listener) (tables : ℕ) → HeardNext (heardBy (lister .listener) telegram) (lister .tables) after tables
       → state after tables (lister .tail) (lister .kept) ≡ takeOf lister telegram
   whole-taken after tables next =
       (λ t. state after tables (k .stored t) (k .counted t)) ∙ (next-heard lister telegram (lister .listener) after tables refl next ∙ sym (take-one k telegram whole))
 
-  pub whole-lines : linesOf lister telegram ≡ heardLines (heard (lister .listener) telegram)
+  pub whole-lines : pieceLines lister telegram ≡ heardLines (heardBy (lister .listener) telegram)
   whole-lines = lines-one k telegram whole ∙ next-lines lister telegram (lister .listener) refl
 
 -- after whole telegrams none is begun
@@ -114,7 +114,7 @@ none-left k bytes whole = ap (λ (l : Lister). l .kept) (take-one k bytes whole)
 -- ---- the three parts of a piece
 
 -- how many of its bytes are telegrams that lie whole in it
-module _ (lister : Lister) (piece : List ℕ) (m : Made lister) (begun : (lister .kept ≡ 0) ⊎ (length piece ≡ 0)) where
+module _ (lister : Lister) (piece : List ℕ) (m : MadeByPieces lister) (begun : (lister .kept ≡ 0) ⊎ (length piece ≡ 0)) where
   abbrev whole : ℕ
   whole = length piece / 26 * 26
 
@@ -144,7 +144,7 @@ module _ (lister : Lister) (piece : List ℕ) (m : Made lister) (begun : (lister
       go (inr empty) = let kept = lacks (here lister (first lister piece whole) m same) in omega (arith, kept, length-take (length piece - whole) (drop whole piece), length-drop whole piece)
 
 -- how many bytes the telegram in hand lacks
-module _ (lister : Lister) (piece : List ℕ) (m : Made lister) (cut : ℕ) (lacking : cut ≡ cond (eqb (lister .kept) 0) 0 (min (26 - lister .kept) (length piece))) where
+module _ (lister : Lister) (piece : List ℕ) (m : MadeByPieces lister) (cut : ℕ) (lacking : cut ≡ cond (eqb (lister .kept) 0) 0 (min (26 - lister .kept) (length piece))) where
   pub cut-inside : cut ≤ length piece
   cut-inside =
       on (eqb (lister .kept) 0)

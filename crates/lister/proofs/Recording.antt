@@ -8,8 +8,8 @@ use Rattle.listener.specs.Answers.{Outcome, aRefusal, aRepeat, aPart, aTable}
 use Rattle.listener.specs.Listeners.{freshListener}
 use Rattle.listener.specs.declared.Listener.{Listener}
 use Rattle.listing_tables.specs.Tables.{tablesBy}
-use Rattle.lister.specs.Hearings.{cut, heard, telegrams, tailOf, linesFor, tablesTaken}
-use Rattle.lister.specs.Pieces.{mostTables, begun, joined, keeping, takeOf, linesOf}
+use Rattle.lister.specs.Hearings.{cut, heardBy, telegramsIn, tailOf, linesFor, tablesTaken}
+use Rattle.lister.specs.Pieces.{mostTables, begunLister, afterKept, keeping, takeOf, pieceLines}
 use Rattle.lister.proofs.Kept.{begun-kept, joined-kept}
 
 -- one telegram takes at most one table, so that a recording cannot take more than its count can hold
@@ -23,27 +23,27 @@ few : (l : Listener) (n : ℕ) (bytes : List ℕ) → tablesTaken l (cut n bytes
 unfolding tablesTaken cut
 few l zero bytes = omega arith
 few l (suc n) bytes =
-    let one = heard l (take 26 bytes) in
+    let one = heardBy l (take 26 bytes) in
     omega (arith, at-most-one (one .told .outcome), few (one .listener) n (drop 26 bytes))
 
-few-tables : (bytes : List ℕ) → length bytes ≤ mostTables → tablesTaken freshListener (telegrams bytes) ≤ mostTables
-unfolding telegrams
+few-tables : (bytes : List ℕ) → length bytes ≤ mostTables → tablesTaken freshListener (telegramsIn bytes) ≤ mostTables
+unfolding telegramsIn
 few-tables bytes p = omega (arith, few freshListener (length bytes / 26) bytes)
 
 module _ (recording : List ℕ) where
-  all : joined begun recording ≡ recording
+  all : afterKept begunLister recording ≡ recording
   all = joined-kept begun-kept recording
 
-  pub recording-lines : linesOf begun recording ≡ linesFor freshListener (telegrams recording)
-  unfolding linesOf begun
-  recording-lines = ap (λ (x : List ℕ). linesFor freshListener (telegrams x)) all
+  pub recording-lines : pieceLines begunLister recording ≡ linesFor freshListener (telegramsIn recording)
+  unfolding pieceLines begunLister
+  recording-lines = ap (λ (x : List ℕ). linesFor freshListener (telegramsIn x)) all
 
-  pub recording-tail : takeOf begun recording .kept ≡ length (tailOf recording)
+  pub recording-tail : takeOf begunLister recording .kept ≡ length (tailOf recording)
   unfolding takeOf keeping
   recording-tail = ap (λ (x : List ℕ). length (tailOf x)) all
 
-  pub recording-tables : length recording ≤ mostTables → takeOf begun recording .tables ≡ tablesTaken freshListener (telegrams recording)
-  unfolding takeOf keeping begun
+  pub recording-tables : length recording ≤ mostTables → takeOf begunLister recording .tables ≡ tablesTaken freshListener (telegramsIn recording)
+  unfolding takeOf keeping begunLister
   recording-tables room =
-      let exact : min (0 + tablesTaken freshListener (telegrams recording)) mostTables ≡ tablesTaken freshListener (telegrams recording) = omega (arith, few-tables recording room) in
-      ap (λ (x : List ℕ). min (0 + tablesTaken freshListener (telegrams x)) mostTables) all ∙ exact
+      let exact : min (0 + tablesTaken freshListener (telegramsIn recording)) mostTables ≡ tablesTaken freshListener (telegramsIn recording) = omega (arith, few-tables recording room) in
+      ap (λ (x : List ℕ). min (0 + tablesTaken freshListener (telegramsIn x)) mostTables) all ∙ exact

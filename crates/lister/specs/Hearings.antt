@@ -21,27 +21,27 @@ cut (suc count) bytes = take telegramLength bytes ∷ cut count (drop telegramLe
 abbrev pub wholeCount : List ℕ → ℕ
 wholeCount bytes = length bytes / telegramLength
 
-unfoldable pub telegrams : List ℕ → List (List ℕ)
-telegrams bytes = cut (wholeCount bytes) bytes
+unfoldable pub telegramsIn : List ℕ → List (List ℕ)
+telegramsIn bytes = cut (wholeCount bytes) bytes
 
 unfoldable pub tailOf : List ℕ → List ℕ
 tailOf bytes = drop (wholeCount bytes * telegramLength) bytes
 
 -- W-04: what a listener tells of one telegram, and the listener after it
-abbrev pub heard : Listener → List ℕ → Hearing
-heard listener telegram = hearOf carries listener (readOf telegram)
+abbrev pub heardBy : Listener → List ℕ → Hearing
+heardBy listener telegram = hearOf carries listener (readOf telegram)
 
 -- W-04: the listener after telegrams, the oldest first
-unfoldable pub listenerAfter : Listener → List (List ℕ) → Listener
-listenerAfter listener [] = listener
-listenerAfter listener (telegram ∷ more) = listenerAfter (heard listener telegram .listener) more
+unfoldable pub listenerThrough : Listener → List (List ℕ) → Listener
+listenerThrough listener [] = listener
+listenerThrough listener (telegram ∷ more) = listenerThrough (heardBy listener telegram .listener) more
 
 -- G-03, G-07: what is printed on them
 unfoldable pub linesFor : Listener → List (List ℕ) → List ℕ
 linesFor listener [] = []
-linesFor listener (telegram ∷ more) = heardLines (heard listener telegram) ++ linesFor (heard listener telegram .listener) more
+linesFor listener (telegram ∷ more) = heardLines (heardBy listener telegram) ++ linesFor (heardBy listener telegram .listener) more
 
 -- G-09, C-09: how many tables were taken
 unfoldable pub tablesTaken : Listener → List (List ℕ) → ℕ
 tablesTaken listener [] = 0
-tablesTaken listener (telegram ∷ more) = tablesOf (heard listener telegram .told) + tablesTaken (heard listener telegram .listener) more
+tablesTaken listener (telegram ∷ more) = tablesOf (heardBy listener telegram .told) + tablesTaken (heardBy listener telegram .listener) more

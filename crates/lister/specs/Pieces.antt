@@ -3,7 +3,7 @@ use Prim.Native.Nat.{ℕ, _+_, _-_, min}
 use mathlib.Core.List.{List, [], _++_}
 use lib.ListN.{length, take, replicate}
 use Rattle.listener.specs.Listeners.{freshListener}
-use Rattle.lister.specs.Hearings.{telegramLength, telegrams, tailOf, listenerAfter, linesFor, tablesTaken}
+use Rattle.lister.specs.Hearings.{telegramLength, telegramsIn, tailOf, listenerThrough, linesFor, tablesTaken}
 use Rattle.lister.specs.declared.Lister.{Lister}
 
 -- Q-104: the greatest number of tables that is counted; the count stays there
@@ -15,18 +15,18 @@ abbrev pub padded : List ℕ → List ℕ
 padded bytes = bytes ++ replicate (telegramLength - length bytes) 0
 
 -- A-20: before any piece: a fresh listener, no table, nothing kept
-unfoldable pub begun : Lister
-begun = record { listener = freshListener; tables = 0; tail = padded []; kept = 0 }
+unfoldable pub begunLister : Lister
+begunLister = record { listener = freshListener; tables = 0; tail = padded []; kept = 0 }
 
 -- G-01: the bytes that were kept, and the piece after them
-abbrev pub joined : Lister → List ℕ → List ℕ
-joined lister piece = take (lister .kept) (lister .tail) ++ piece
+abbrev pub afterKept : Lister → List ℕ → List ℕ
+afterKept lister piece = take (lister .kept) (lister .tail) ++ piece
 
 -- G-09: the state after these telegrams, with these bytes left
 unfoldable pub keeping : Lister → List (List ℕ) → List ℕ → Lister
 keeping lister heard left =
     record {
-      listener = listenerAfter (lister .listener) heard;
+      listener = listenerThrough (lister .listener) heard;
       tables = min (lister .tables + tablesTaken (lister .listener) heard) mostTables;
       tail = padded left;
       kept = length left;
@@ -34,13 +34,13 @@ keeping lister heard left =
 
 -- G-01: the state after a piece: the telegrams that are whole now are heard, and what is left is kept
 unfoldable pub takeOf : Lister → List ℕ → Lister
-takeOf lister piece = keeping lister (telegrams (joined lister piece)) (tailOf (joined lister piece))
+takeOf lister piece = keeping lister (telegramsIn (afterKept lister piece)) (tailOf (afterKept lister piece))
 
 -- G-03, G-07: what a piece prints
-unfoldable pub linesOf : Lister → List ℕ → List ℕ
-linesOf lister piece = linesFor (lister .listener) (telegrams (joined lister piece))
+unfoldable pub pieceLines : Lister → List ℕ → List ℕ
+pieceLines lister piece = linesFor (lister .listener) (telegramsIn (afterKept lister piece))
 
 -- R-26: a state that came from `begun` and earlier pieces
-pub data Made : Lister → Type 0 where
-  made : Made begun
-  taken : {lister : Lister} → Made lister → (piece : List ℕ) → Made (takeOf lister piece)
+pub data MadeByPieces : Lister → Type 0 where
+  madeBegun : MadeByPieces begunLister
+  takenPiece : {lister : Lister} → MadeByPieces lister → (piece : List ℕ) → MadeByPieces (takeOf lister piece)

@@ -12,8 +12,8 @@ ghost use mathlib.Core.Logic.{_⊎_};
 ghost use lib.Dec.{eqb};
 ghost use Rattle.listener.specs.Lent.{listenerIn};
 ghost use Rattle.listing_tables.specs.Tables.{heardLines};
-ghost use Rattle.lister.specs.Hearings.{heard, linesFor};
-ghost use Rattle.lister.specs.Pieces.{mostTables, begun, keeping, takeOf, linesOf, Made};
+ghost use Rattle.lister.specs.Hearings.{heardBy, linesFor};
+ghost use Rattle.lister.specs.Pieces.{mostTables, begunLister, keeping, takeOf, pieceLines, MadeByPieces};
 ghost use Rattle.lister.specs.Lent.{HeardNext};
 
 // What is kept from one piece to the next: the listener, how many tables it has taken, and the first bytes of a telegram that is not
@@ -40,7 +40,7 @@ struct Next {
 impl Lister {
     // Before any piece.
     pub fn begun() -> Self
-        ensures { λ r. ⌜ r ≡ begun ⌝ }
+        ensures { λ r. ⌜ r ≡ begunLister ⌝ }
     {
         Lister {
             listener: Listener::fresh(),
@@ -53,8 +53,8 @@ impl Lister {
     // Hears the telegrams that become whole with this piece, and keeps the bytes that are left. First those bytes that the telegram in
     // hand still lacks, then telegrams that lie whole in the piece, and then what is left.
     pub fn take(self, piece: &[u8], listing: &mut [u8], at: usize) -> Listed
-        requires { ⌜ Made self ⌝ }
-        ensures { λ r. ⌜ (r .lister ≡ takeOf self (now (piece .entry))) × Poured (now (listing .entry)) at (linesOf self (now (piece .entry))) (now (listing .exit)) (r .at) ⌝ }
+        requires { ⌜ MadeByPieces self ⌝ }
+        ensures { λ r. ⌜ (r .lister ≡ takeOf self (now (piece .entry))) × Poured (now (listing .entry)) at (pieceLines self (now (piece .entry))) (now (listing .exit)) (r .at) ⌝ }
     {
         let end = lacking(self.kept, piece.len());
         let listed = bite(self, &piece[0..end], listing, at);
@@ -95,7 +95,7 @@ fn hear_next(
     listing: &mut [u8],
     at: usize,
 ) -> Next
-    ensures { λ r. ⌜ HeardNext (heard (listenerIn (now (memory .entry))) (now (telegram .entry))) tables (listenerIn (now (memory .exit))) (r .tables) × Poured (now (listing .entry)) at (heardLines (heard (listenerIn (now (memory .entry))) (now (telegram .entry)))) (now (listing .exit)) (r .at) ⌝ }
+    ensures { λ r. ⌜ HeardNext (heardBy (listenerIn (now (memory .entry))) (now (telegram .entry))) tables (listenerIn (now (memory .exit))) (r .tables) × Poured (now (listing .entry)) at (heardLines (heardBy (listenerIn (now (memory .entry))) (now (telegram .entry)))) (now (listing .exit)) (r .at) ⌝ }
 {
     let answer = listener::hear_in(memory, telegram);
     let tables = tally(tables, listing_tables::tables_of(answer));
@@ -125,8 +125,8 @@ fn hear_one(lister: Lister, telegram: &[u8], listing: &mut [u8], at: usize) -> L
 // Hears telegrams that lie whole in a piece, one after another, where none is begun. The listener stands in lent memory from the first to
 // the last.
 fn take_whole(lister: Lister, bytes: &[u8], listing: &mut [u8], at: usize) -> Listed
-    requires { ⌜ Made lister × ((lister .kept ≡ 0) ⊎ (length (now bytes) ≡ 0)) × (length (now bytes) ≡ length (now bytes) / 26 * 26) ⌝ }
-    ensures { λ r. ⌜ (r .lister ≡ takeOf lister (now (bytes .entry))) × Poured (now (listing .entry)) at (linesOf lister (now (bytes .entry))) (now (listing .exit)) (r .at) ⌝ }
+    requires { ⌜ MadeByPieces lister × ((lister .kept ≡ 0) ⊎ (length (now bytes) ≡ 0)) × (length (now bytes) ≡ length (now bytes) / 26 * 26) ⌝ }
+    ensures { λ r. ⌜ (r .lister ≡ takeOf lister (now (bytes .entry))) × Poured (now (listing .entry)) at (pieceLines lister (now (bytes .entry))) (now (listing .exit)) (r .at) ⌝ }
 {
     let listener = lister.listener;
     let tail = lister.tail;
@@ -155,8 +155,8 @@ fn take_whole(lister: Lister, bytes: &[u8], listing: &mut [u8], at: usize) -> Li
 
 // Takes a piece where no telegram is begun, or an empty one.
 fn take_rest(lister: Lister, piece: &[u8], listing: &mut [u8], at: usize) -> Listed
-    requires { ⌜ Made lister × ((lister .kept ≡ 0) ⊎ (length (now piece) ≡ 0)) ⌝ }
-    ensures { λ r. ⌜ (r .lister ≡ takeOf lister (now (piece .entry))) × Poured (now (listing .entry)) at (linesOf lister (now (piece .entry))) (now (listing .exit)) (r .at) ⌝ }
+    requires { ⌜ MadeByPieces lister × ((lister .kept ≡ 0) ⊎ (length (now piece) ≡ 0)) ⌝ }
+    ensures { λ r. ⌜ (r .lister ≡ takeOf lister (now (piece .entry))) × Poured (now (listing .entry)) at (pieceLines lister (now (piece .entry))) (now (listing .exit)) (r .at) ⌝ }
 {
     let end = piece.len() / LENGTH * LENGTH;
     let listed = take_whole(lister, &piece[0..end], listing, at);
@@ -166,8 +166,8 @@ fn take_rest(lister: Lister, piece: &[u8], listing: &mut [u8], at: usize) -> Lis
 
 // Takes a piece that is not longer than what the telegram in hand still lacks.
 fn bite(lister: Lister, bytes: &[u8], listing: &mut [u8], at: usize) -> Listed
-    requires { ⌜ Made lister × (lister .kept + length (now bytes) ≤ 26) ⌝ }
-    ensures { λ r. ⌜ (r .lister ≡ takeOf lister (now (bytes .entry))) × Poured (now (listing .entry)) at (linesOf lister (now (bytes .entry))) (now (listing .exit)) (r .at) ⌝ }
+    requires { ⌜ MadeByPieces lister × (lister .kept + length (now bytes) ≤ 26) ⌝ }
+    ensures { λ r. ⌜ (r .lister ≡ takeOf lister (now (bytes .entry))) × Poured (now (listing .entry)) at (pieceLines lister (now (bytes .entry))) (now (listing .exit)) (r .at) ⌝ }
 {
     let mut tail = lister.tail;
     let kept = text::put_words(&mut tail, lister.kept, bytes);

@@ -6,8 +6,8 @@ use lib.Dec.{eqb}
 use lib.ListN.{length}
 use Rattle.listener.specs.Listeners.{freshListener}
 use Rattle.listing_lines.specs.Lines.{headerLine, refusedLine, endLine}
-use Rattle.lister.specs.Hearings.{telegrams, tailOf, linesFor, tablesTaken}
-use Rattle.lister.specs.Pieces.{takeOf, linesOf}
+use Rattle.lister.specs.Hearings.{telegramsIn, tailOf, linesFor, tablesTaken}
+use Rattle.lister.specs.Pieces.{takeOf, pieceLines}
 use Rattle.lister.specs.declared.Lister.{Lister}
 
 -- G-08: a short tail prints `refused 10`; A-35: no tail prints nothing
@@ -18,8 +18,8 @@ tailLine kept = cond (eqb kept 0) [] (refusedLine 10)
 unfoldable pub listing : List ℕ → List ℕ
 listing recording =
     headerLine
-    ++ (linesFor freshListener (telegrams recording)
-    ++ (tailLine (length (tailOf recording)) ++ endLine (tablesTaken freshListener (telegrams recording))))
+    ++ (linesFor freshListener (telegramsIn recording)
+    ++ (tailLine (length (tailOf recording)) ++ endLine (tablesTaken freshListener (telegramsIn recording))))
 
 -- ---- piece by piece
 
@@ -35,4 +35,4 @@ together (piece ∷ more) = piece ++ together more
 -- G-01 to G-09 without the first line: what is printed for the pieces, one after another, and at the end
 unfoldable pub printed : Lister → List (List ℕ) → List ℕ
 printed lister [] = endOf lister
-printed lister (piece ∷ more) = linesOf lister piece ++ printed (takeOf lister piece) more
+printed lister (piece ∷ more) = pieceLines lister piece ++ printed (takeOf lister piece) more

@@ -6,7 +6,7 @@ use mathlib.Core.List.{List, [], _∷_, _++_}
 use Rattle.condition.specs.Slots.{isOccupied, kindOf, codedOf}
 use Rattle.condition.specs.declared.slots.Slot.{Slot}
 use Rattle.text.specs.Words.{blank}
-use Rattle.listing_words.specs.Words.{lineFeed, numberThen, distanceWord, markWord}
+use Rattle.listing_words.specs.Words.{lineFeed, numberThen, distanceText, markWord}
 use Rattle.listing_seconds.specs.Seconds.{secondWord}
 
 -- G-04: slot, number, type
@@ -15,7 +15,7 @@ entryNumbers place slot = numberThen place blank ++ (numberThen (slot .number) b
 
 -- G-04 to G-06: first and second
 unfoldable pub entryWords : Slot → List ℕ
-entryWords slot = distanceWord (codedOf slot .first) ++ ((blank ∷ []) ++ (secondWord (slot .body) ++ (blank ∷ [])))
+entryWords slot = distanceText (codedOf slot .first) ++ ((blank ∷ []) ++ (secondWord (slot .body) ++ (blank ∷ [])))
 
 -- G-04: a line for an occupied slot: slot, number, type, first, second, `new` or `carried`; an empty one has none
 unfoldable pub entryLine : ℕ → Slot → Bool → List ℕ

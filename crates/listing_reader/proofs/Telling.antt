@@ -15,11 +15,11 @@ use Rattle.kit.proofs.Loops.{any-none}
 use Rattle.text.specs.Words.{refusedWord}
 use Rattle.listing_words.specs.Words.{newWord, carriedWord}
 use Rattle.listing_lines.specs.Lines.{headerLine}
-use Rattle.listing_reader.specs.Fixed.{differsAt, isSame, wordOf}
+use Rattle.listing_reader.specs.Fixed.{differsAt, isSameText, wordOf}
 use Rattle.listing_reader.specs.declared.Word.the-variants.{Header, New, Carried, Refused}
 
-pub same-bytes : (text words : List ℕ) → isSame text words ≡ true → text ≡ words
-unfolding isSame
+pub same-bytes : (text words : List ℕ) → isSameText text words ≡ true → text ≡ words
+unfolding isSameText
 same-bytes text words e =
     let (long, none) = and-both (eqb (length text) (length words)) (not (any (differsAt text words) 0 (length words))) e in
     let equal : length text ≡ length words = eqb-true (length text) (length words) long in
@@ -29,5 +29,5 @@ same-bytes text words e =
 
 -- F-08: what is written is read as itself
 pub told : (wordOf headerLine ≡ Header) × (wordOf newWord ≡ New) × (wordOf carriedWord ≡ Carried) × (wordOf refusedWord ≡ Refused)
-unfolding wordOf isSame headerLine ladder scan
+unfolding wordOf isSameText headerLine ladder scan
 told = (refl, refl, refl, refl)

@@ -17,17 +17,17 @@ abbrev pub differsAt : List ℕ → List ℕ → ℕ → Bool
 differsAt text words i = not (eqb (getD text i 0) (getD words i 0))
 
 -- as many bytes, and each the same
-unfoldable pub isSame : List ℕ → List ℕ → Bool
-isSame text words = eqb (length text) (length words) && not (any (differsAt text words) 0 (length words))
+unfoldable pub isSameText : List ℕ → List ℕ → Bool
+isSameText text words = eqb (length text) (length words) && not (any (differsAt text words) 0 (length words))
 
 -- F-08: the header, `new`, `carried`, `refused` with its blank, or none of them
 unfoldable pub wordOf : List ℕ → Word
 wordOf text =
     ladder Other
-    ((isSame text headerLine, Header)
-    ∷ (isSame text newWord, New)
-    ∷ (isSame text carriedWord, Carried)
-    ∷ (isSame text refusedWord, Refused)
+    ((isSameText text headerLine, Header)
+    ∷ (isSameText text newWord, New)
+    ∷ (isSameText text carriedWord, Carried)
+    ∷ (isSameText text refusedWord, Refused)
     ∷ [])
 
 -- C-12: the number that other languages know a word by

@@ -6,7 +6,7 @@ use listing_words::NEW;
 ghost use mathlib.Core.Path.{_≡_};
 ghost use lib.ListN.{length};
 ghost use Rattle.kit.specs.Loops.{any};
-ghost use Rattle.listing_reader.specs.Fixed.{differsAt, isSame, wordOf, codeOf};
+ghost use Rattle.listing_reader.specs.Fixed.{differsAt, isSameText, wordOf, codeOf};
 
 // Which of the fixed byte strings a text is.
 pub enum Word {
@@ -33,7 +33,7 @@ fn differs(text: &[u8], words: &[u8]) -> bool
 }
 
 fn same(text: &[u8], words: &[u8]) -> bool
-    ensures { λ r. ⌜ r ≡ isSame (now (text .entry)) (now (words .entry)) ⌝ }
+    ensures { λ r. ⌜ r ≡ isSameText (now (text .entry)) (now (words .entry)) ⌝ }
 {
     if text.len() != words.len() {
         return false;

@@ -9,11 +9,11 @@ use native.Mathlib.Omega.{arith}
 use borrow.Author.Tests.{leb-true}
 use Rattle.kit.proofs.Cases.{on, and-both}
 use Rattle.text.specs.Words.{blank, refusedWord}
-use Rattle.condition.specs.Slots.{isOccupied, coding, kindOf, codedOf, HeldBody, Held}
+use Rattle.condition.specs.Slots.{isOccupied, coding, kindOf, codedOf, HeldBody, MayHold}
 use Rattle.condition.specs.declared.slots.Body.{Body}
 use Rattle.condition.specs.declared.slots.Body.the-variants.{Empty, Area, Traction, Current}
 use Rattle.condition.specs.declared.slots.Slot.{Slot}
-use Rattle.listing_words.specs.Words.{lineFeed, numberThen, distanceWord, markWord}
+use Rattle.listing_words.specs.Words.{lineFeed, numberThen, distanceText, markWord}
 use Rattle.listing_seconds.specs.Seconds.{secondWord}
 use Rattle.listing_room.proofs.Words.{number-short, distance-short, second-short, mark-short}
 use Rattle.listing_lines.specs.Lines.{headerLine, tableWord, tableLine, refusedLine, endWord, endLine}
@@ -46,7 +46,7 @@ kind-small number (Area kind entry exit) h = omega (arith, leb-true kind 9 (and-
 kind-small number (Traction change country voltage) h = omega arith
 kind-small number (Current change limit) h = omega arith
 
-module _ (place : ℕ) (slot : Slot) (inside : place < 100) (held : Held slot) (byte : slot .number < 256) where
+module _ (place : ℕ) (slot : Slot) (inside : place < 100) (held : MayHold slot) (byte : slot .number < 256) where
   numbers-short : length (entryNumbers place slot) ≤ 9
   unfolding entryNumbers codedOf
   numbers-short =
@@ -65,7 +65,7 @@ module _ (place : ℕ) (slot : Slot) (inside : place < 100) (held : Held slot) (
       let first = codedOf slot .first in
       omega (
         arith,
-        length-append (distanceWord first) ((blank ∷ []) ++ (secondWord (slot .body) ++ (blank ∷ []))),
+        length-append (distanceText first) ((blank ∷ []) ++ (secondWord (slot .body) ++ (blank ∷ []))),
         length-append (blank ∷ []) (secondWord (slot .body) ++ (blank ∷ [])),
         length-append (secondWord (slot .body)) (blank ∷ []),
         distance-short first,

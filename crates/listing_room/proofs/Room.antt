@@ -29,8 +29,8 @@ use Rattle.listing_room.proofs.Lines.{header-long, refused-short, end-s
 use Rattle.listing_tables.specs.Tables.{heardLines}
 use Rattle.listing_room.proofs.Tables.{Narrow, heard-short}
 use Rattle.listener.specs.Listeners.{carries, freshListener}
-use Rattle.lister.specs.Hearings.{cut, telegrams, tailOf, heard, listenerAfter, linesFor}
-use Rattle.lister.specs.Pieces.{mostTables, begun, joined, keeping, takeOf, linesOf, Made, made, taken}
+use Rattle.lister.specs.Hearings.{cut, telegramsIn, tailOf, heardBy, listenerThrough, linesFor}
+use Rattle.lister.specs.Pieces.{mostTables, begunLister, afterKept, keeping, takeOf, pieceLines, MadeByPieces, madeBegun, takenPiece}
 use Rattle.listing.specs.Listings.{tailLine, endOf, listing}
 use Rattle.listing.proofs.Whole.{in-one}
 use Rattle.lister.proofs.Recording.{recording-lines}
@@ -47,17 +47,17 @@ empty-narrow : Narrow emptySlot
 empty-narrow = (refl, omega arith)
 
 module _ (listener : Listener) (narrow : Every Narrow listener) (telegram : List ℕ) (bytes : Bytes telegram) where
-  next-narrow : Every Narrow (heard listener telegram .listener)
+  next-narrow : Every Narrow (heardBy listener telegram .listener)
   next-narrow = hear-every Narrow empty-narrow carries listener (readOf telegram) narrow (λ k. (never-invalid telegram k, number-byte telegram bytes k))
 
-  telegram-short : length (heardLines (heard listener telegram)) ≤ 639
-  telegram-short = heard-short (heard listener telegram) (hear-small carries listener telegram) (next-narrow .picture)
+  telegram-short : length (heardLines (heardBy listener telegram)) ≤ 639
+  telegram-short = heard-short (heardBy listener telegram) (hear-small carries listener telegram) (next-narrow .picture)
 
-cut-narrow : (n : ℕ) (bytes : List ℕ) → Bytes bytes → (listener : Listener) → Every Narrow listener → Every Narrow (listenerAfter listener (cut n bytes))
-unfolding cut listenerAfter
+cut-narrow : (n : ℕ) (bytes : List ℕ) → Bytes bytes → (listener : Listener) → Every Narrow listener → Every Narrow (listenerThrough listener (cut n bytes))
+unfolding cut listenerThrough
 cut-narrow zero bytes fits listener narrow = narrow
 cut-narrow (suc n) bytes fits listener narrow =
-    cut-narrow n (drop 26 bytes) (drop-bytes 26 bytes fits) (heard listener (take 26 bytes) .listener) (next-narrow listener narrow (take 26 bytes) (take-bytes 26 bytes fits))
+    cut-narrow n (drop 26 bytes) (drop-bytes 26 bytes fits) (heardBy listener (take 26 bytes) .listener) (next-narrow listener narrow (take 26 bytes) (take-bytes 26 bytes fits))
 
 cut-short : (n : ℕ) (bytes : List ℕ) → Bytes bytes → (listener : Listener) → Every Narrow listener → length (linesFor listener (cut n bytes)) ≤ 639 * n
 unfolding cut linesFor
@@ -65,10 +65,10 @@ cut-short zero bytes fits listener narrow = omega arith
 cut-short (suc n) bytes fits listener narrow =
     let telegram = take 26 bytes in
     let own : Bytes telegram = take-bytes 26 bytes fits in
-    let next = heard listener telegram .listener in
+    let next = heardBy listener telegram .listener in
     omega (
       arith,
-      length-append (heardLines (heard listener telegram)) (linesFor next (cut n (drop 26 bytes))),
+      length-append (heardLines (heardBy listener telegram)) (linesFor next (cut n (drop 26 bytes))),
       telegram-short listener narrow telegram own,
       cut-short n (drop 26 bytes) (drop-bytes 26 bytes fits) next (next-narrow listener narrow telegram own),
     )
@@ -82,18 +82,18 @@ record Fit (lister : Lister) : Type 0 where
   bytes : Bytes left
   narrow : Every Narrow (lister .listener)
 
-begun-fit : Fit begun
-unfolding begun
+begun-fit : Fit begunLister
+unfolding begunLister
 begun-fit = record { left = []; kept = begun-kept; bytes = λ i. omega arith; narrow = fresh-every Narrow empty-narrow }
 
 module _ (lister : Lister) (fit : Fit lister) (piece : List ℕ) (bytes : Bytes piece) where
-  joined-bytes : Bytes (joined lister piece)
+  joined-bytes : Bytes (afterKept lister piece)
   joined-bytes = subst Bytes (sym (joined-kept (fit .kept) piece)) (append-bytes (fit .left) piece (fit .bytes) bytes)
 
   take-fit : Fit (takeOf lister piece)
-  unfolding takeOf keeping telegrams tailOf
+  unfolding takeOf keeping telegramsIn tailOf
   take-fit =
-      let all = joined lister piece in
+      let all = afterKept lister piece in
       record {
         left = tailOf all;
         kept = take-kept lister piece;
@@ -101,10 +101,10 @@ module _ (lister : Lister) (fit : Fit lister) (piece : List ℕ) (bytes : Bytes 
         narrow = cut-narrow (length all / 26) all joined-bytes (lister .listener) (fit .narrow);
       }
 
-  lines-short : length (linesOf lister piece) ≤ 639 * ((length piece + 25) / 26)
-  unfolding linesOf telegrams
+  lines-short : length (pieceLines lister piece) ≤ 639 * ((length piece + 25) / 26)
+  unfolding pieceLines telegramsIn
   lines-short =
-      let all = joined lister piece in
+      let all = afterKept lister piece in
       let long : length all ≡ length (fit .left) + length piece = ap length (joined-kept (fit .kept) piece) ∙ length-append (fit .left) piece in
       omega (arith, cut-short (length all / 26) all joined-bytes (lister .listener) (fit .narrow), long, fit .kept .short)
 
@@ -127,16 +127,16 @@ after-fit (piece ∷ more) (own, bytes) lister fit = after-fit more bytes (takeO
 
 module _ (earlier : List (List ℕ)) (bytes : AllBytes earlier) (piece : List ℕ) (own : Bytes piece) where
   -- after any pieces of bytes, the lines of a further one: at most 639 bytes for each telegram that becomes whole
-  pub piece-short : length (linesOf (afterAll begun earlier) piece) ≤ 639 * ((length piece + 25) / 26)
-  piece-short = lines-short (afterAll begun earlier) (after-fit earlier bytes begun begun-fit) piece own
+  pub piece-short : length (pieceLines (afterAll begunLister earlier) piece) ≤ 639 * ((length piece + 25) / 26)
+  piece-short = lines-short (afterAll begunLister earlier) (after-fit earlier bytes begunLister begun-fit) piece own
 
   -- those of a piece of the program's size
-  pub program-room : length piece ≤ pieceRoom → length (linesOf (afterAll begun earlier) piece) ≤ linesRoom
+  pub program-room : length piece ≤ pieceRoom → length (pieceLines (afterAll begunLister earlier) piece) ≤ linesRoom
   program-room p = omega (arith, piece-short)
 
   -- so that a buffer of that size takes them all
-  pub all-put : {before after : List ℕ} {next : ℕ} → length piece ≤ pieceRoom → length before ≡ linesRoom → Poured before 0 (linesOf (afterAll begun earlier) piece) after next
-      → Put before 0 (linesOf (afterAll begun earlier) piece) after next
+  pub all-put : {before after : List ℕ} {next : ℕ} → length piece ≤ pieceRoom → length before ≡ linesRoom → Poured before 0 (pieceLines (afterAll begunLister earlier) piece) after next
+      → Put before 0 (pieceLines (afterAll begunLister earlier) piece) after next
   all-put p room poured = poured-put (omega (arith, program-room p)) poured
 
 -- G-02: the header has room
@@ -153,16 +153,16 @@ end-of-short lister few =
     omega (arith, length-append (tailLine (lister .kept)) (endLine (lister .tables)), tail-line-short (lister .kept), end-short (lister .tables) (omega arith))
 
 -- G-08, G-09: the end has room, whatever the pieces were
-pub end-room : {lister : Lister} → Made lister → length (endOf lister) ≤ endRoom
+pub end-room : {lister : Lister} → MadeByPieces lister → length (endOf lister) ≤ endRoom
 end-room {lister} m = given (made-kept m) (λ (bytes, k). omega (arith, end-of-short lister (k .few)))
 
 -- G-01 to G-09: a whole listing has at most 639 bytes for each telegram that the recording has whole, and 49 more
 pub listing-short : (recording : List ℕ) → Bytes recording → length recording ≤ mostTables → length (listing recording) ≤ 639 * (length recording / 26) + 49
-unfolding telegrams
+unfolding telegramsIn
 listing-short recording fits counted =
-    let lines = linesOf begun recording in
-    let end = endOf (takeOf begun recording) in
-    given (made-kept (taken made recording))
+    let lines = pieceLines begunLister recording in
+    let end = endOf (takeOf begunLister recording) in
+    given (made-kept (takenPiece madeBegun recording))
     (λ (bytes, k).
     omega (
       arith,
@@ -172,5 +172,5 @@ listing-short recording fits counted =
       header-long,
       ap length (recording-lines recording),
       cut-short (length recording / 26) recording fits freshListener (fresh-every Narrow empty-narrow),
-      end-of-short (takeOf begun recording) (k .few),
+      end-of-short (takeOf begunLister recording) (k .few),
     ))

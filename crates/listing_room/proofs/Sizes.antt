@@ -10,14 +10,14 @@ use Rattle.kit.specs.Bytes.{Bytes}
 use Rattle.kit.proofs.Ladder.{decides-such}
 use Rattle.kit.proofs.Cases.{on}
 use Rattle.kit.proofs.Loops.{count-most}
-use Rattle.condition.specs.Slots.{emptySlot, isOccupied, slots}
+use Rattle.condition.specs.Slots.{emptySlot, isOccupied, slotCount}
 use Rattle.condition.specs.declared.slots.Slot.{Slot}
 use Rattle.wire.specs.Steps.{steps, gapOf}
 use Rattle.wire.specs.declared.verdicts.Verdict.{Verdict}
 use Rattle.wire.specs.declared.verdicts.Verdict.the-variants.{Accepted, Refused}
 use Rattle.telegram.specs.Sendable.{slotOn}
 use Rattle.telegram.specs.Tables.{tableSlot}
-use Rattle.telegram.specs.Telegrams.{place, codedAt, readRefusal, readRows, slotAt, telegramOf, blank, readOf}
+use Rattle.telegram.specs.Telegrams.{placeStart, codedAt, readRefusal, readRows, slotAt, telegramOf, blankTelegram, readOf}
 use Rattle.telegram.specs.declared.Telegram.{Telegram}
 use Rattle.telegram.proofs.Four.{four-each}
 use Rattle.telegram.proofs.Refusals.{reading-refused}
@@ -36,7 +36,7 @@ use Rattle.listener.proofs.Promises.{ways}
 -- ---- what is read
 
 -- the telegram of a reading is what the bytes mean, or the blank one
-read-either : (P : Telegram → Type 0) (bytes : List ℕ) → P (telegramOf bytes) → P blank → P (readOf bytes .telegram)
+read-either : (P : Telegram → Type 0) (bytes : List ℕ) → P (telegramOf bytes) → P blankTelegram → P (readOf bytes .telegram)
 unfolding readOf
 read-either P bytes meant none = on (eqb (readRefusal bytes) 0) (λ e. rw e meant) (λ e. rw e none)
 
@@ -45,7 +45,7 @@ pub number-byte : (bytes : List ℕ) → Bytes bytes → (k : ℕ) → slotOn (r
 unfolding telegramOf codedAt
 number-byte bytes fits k =
     read-either (λ t. slotOn t k .number < 256) bytes
-    (four-each (λ n x. x .number < 256) (slotAt bytes) (λ n below. fits (place n)) (λ n past. omega arith) k)
+    (four-each (λ n x. x .number < 256) (slotAt bytes) (λ n below. fits (placeStart n)) (λ n past. omega arith) k)
     (four-each (λ n x. x .number < 256) (λ n. emptySlot) (λ n below. omega arith) (λ n past. omega arith) k)
 
 -- T-02: its step number
@@ -63,7 +63,7 @@ verdict-small bytes number e = let below = decides-such (λ n. n ≤ 14) (readRo
 pub record Small (told : Told) : Type 0 where
   pub number : told .number ≤ 15
   pub step : told .step < steps
-  pub conditions : told .conditions ≤ slots
+  pub conditions : told .conditions ≤ slotCount
   pub gap : told .gap < steps
 
 set-step : (hand : Hand) (step : ℕ) → setFor hand step .step ≡ step
@@ -75,9 +75,9 @@ unfolding gapOf
 gap-small Never step = omega arith
 gap-small (Step last) step = omega arith
 
-count-small : (table : List Slot) → countOf table ≤ slots
+count-small : (table : List Slot) → countOf table ≤ slotCount
 unfolding countOf
-count-small table = count-most (λ i. isOccupied (tableSlot table i)) slots
+count-small table = count-most (λ i. isOccupied (tableSlot table i)) slotCount
 
 module _ (limit : ℕ) (listener : Listener) where
   heard-small : (t : Telegram) → t .step < steps → Small (heardOf limit listener t .told)

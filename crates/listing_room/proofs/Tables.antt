@@ -5,7 +5,7 @@ use mathlib.Core.List.{List}
 use lib.ListN.{length, length-append}
 use native.Mathlib.Omega.{arith}
 use Rattle.kit.proofs.Each.{length-each-within}
-use Rattle.condition.specs.Slots.{slots, Held as HeldSlot}
+use Rattle.condition.specs.Slots.{slotCount, MayHold as HeldSlot}
 use Rattle.condition.specs.declared.slots.Slot.{Slot}
 use Rattle.telegram.specs.Tables.{tableSlot}
 use Rattle.listener.specs.Answers.{Outcome, aRefusal, aRepeat, aPart, aTable, Told, Hearing}
@@ -23,7 +23,7 @@ Narrow slot = HeldSlot slot × (slot .number < 256)
 picture-short : (picture : List Slot) (marks : List Bool) → AllOf Narrow picture → length (pictureLines picture marks) ≤ 620
 unfolding pictureLines
 picture-short picture marks all =
-    length-each-within (entryAt picture marks) 31 0 slots
+    length-each-within (entryAt picture marks) 31 0 slotCount
     (λ i below. entry-short i (tableSlot picture i) (omega arith) (all i .0) (all i .1) (markAt marks i))
 
 refusal-short : (outcome : Outcome) (told : Told) → Small told → length (refusalBy outcome told) ≤ 11

@@ -11,11 +11,11 @@ use Rattle.kit.proofs.Cases.{on}
 use Rattle.text.specs.Decimals.{decimal}
 use Rattle.text.proofs.Numerals.{decimal-short}
 use Rattle.wire.specs.Distances.{noValue, distanceOf}
-use Rattle.kinds.specs.Words.{currentWord}
+use Rattle.kinds.specs.Words.{isCurrentWord}
 use Rattle.condition.specs.Slots.{HeldBody}
 use Rattle.condition.specs.declared.slots.Body.{Body}
 use Rattle.condition.specs.declared.slots.Body.the-variants.{Empty, Area, Traction, Current}
-use Rattle.listing_words.specs.Words.{numberThen, distanceWord, markWord}
+use Rattle.listing_words.specs.Words.{numberThen, distanceText, markWord}
 use Rattle.listing_seconds.specs.Seconds.{stroke, systemWord, limitWord, secondWord}
 
 -- a number and the byte after it
@@ -23,8 +23,8 @@ pub number-short : (k number after : ℕ) → number < 10 ^ k → 1 ≤ k → le
 number-short k number after small some = omega (arith, length-append (decimal number) (after ∷ []), decimal-short k number small some)
 
 -- G-05: a sign and five digits
-pub distance-short : (word : ℕ) → length (distanceWord word) ≤ 6
-unfolding distanceWord distanceOf
+pub distance-short : (word : ℕ) → length (distanceText word) ≤ 6
+unfolding distanceText distanceOf
 distance-short word =
     on (eqb word noValue)
     (λ e. rw e (omega arith))
@@ -46,7 +46,7 @@ limit-short : (change limit : ℕ) → limit ≤ 1023 → length (limitWord chan
 unfolding limitWord
 limit-short change limit p = on (eqb change noValue) (λ e. rw e (omega arith)) (λ e. rw e (decimal-short 4 limit (omega arith) (omega arith)))
 
-limit-most : (limit : ℕ) → currentWord limit ≡ true → limit ≤ 1023
+limit-most : (limit : ℕ) → isCurrentWord limit ≡ true → limit ≤ 1023
 limit-most limit allowed = on (leb limit 1000) (λ low. omega (arith, leb-true limit 1000 low)) (λ high. omega (arith, eqb-true limit 1023 (rw high at allowed)))
 
 pub second-short : (number : ℕ) (body : Body) → HeldBody number body → length (secondWord body) ≤ 6

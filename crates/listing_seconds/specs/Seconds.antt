@@ -8,7 +8,7 @@ use Rattle.text.specs.Decimals.{decimal}
 use Rattle.wire.specs.Distances.{noValue}
 use Rattle.condition.specs.declared.slots.Body.{Body}
 use Rattle.condition.specs.declared.slots.Body.the-variants.{Empty, Area, Traction, Current}
-use Rattle.listing_words.specs.Words.{numberThen, minus, distanceWord}
+use Rattle.listing_words.specs.Words.{numberThen, minus, distanceText}
 
 -- G-06: between voltage and country
 abbrev pub stroke : ℕ
@@ -25,6 +25,6 @@ limitWord change limit = cond (eqb change noValue) (minus ∷ []) (decimal limit
 -- G-04, G-06: the second word; for the other types it is the exit
 abbrev pub secondWord : Body → List ℕ
 secondWord Empty = []
-secondWord (Area kind entry exit) = distanceWord exit
+secondWord (Area kind entry exit) = distanceText exit
 secondWord (Traction change country voltage) = systemWord change country voltage
 secondWord (Current change limit) = limitWord change limit

@@ -12,17 +12,17 @@ use Rattle.condition.specs.Slots.{codedOf}
 use Rattle.condition.specs.declared.slots.Slot.{Slot}
 use Rattle.condition.specs.declared.slots.Coded.{Coded}
 use Rattle.text.specs.Words.{blank}
-use Rattle.listing_words.specs.Words.{minus, numberThen, distanceWord}
+use Rattle.listing_words.specs.Words.{minus, numberThen, distanceText}
 use Rattle.listing_seconds.specs.Seconds.{stroke, systemWord, limitWord}
 use Rattle.listing_entries.specs.Entries.{entryNumbers}
 
-pub distance-none : (word : ℕ) → word ≡ noValue → distanceWord word ++ (blank ∷ []) ≡ minus ∷ blank ∷ []
-unfolding distanceWord distanceOf
+pub distance-none : (word : ℕ) → word ≡ noValue → distanceText word ++ (blank ∷ []) ≡ minus ∷ blank ∷ []
+unfolding distanceText distanceOf
 distance-none word e = rw (eq-eqb word noValue e) refl
 
 pub distance-signed : (word : ℕ) → (word ≡ noValue → ⊥)
-    → distanceWord word ++ (blank ∷ []) ≡ cond (leb noValue word) (minus ∷ []) [] ++ numberThen (cond (ltb word noValue) word (0x10000 - word)) blank
-unfolding distanceWord distanceOf
+    → distanceText word ++ (blank ∷ []) ≡ cond (leb noValue word) (minus ∷ []) [] ++ numberThen (cond (ltb word noValue) word (0x10000 - word)) blank
+unfolding distanceText distanceOf
 distance-signed word other =
     on (ltb word noValue)
     (λ e. rw (ne-eqb word noValue other, e, lt-leb noValue word (ltb-true word noValue e)) refl)

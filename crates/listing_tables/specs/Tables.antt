@@ -3,7 +3,7 @@ use Prim.Native.Nat.{ℕ}
 use mathlib.Core.Bool.{Bool}
 use mathlib.Core.List.{List, [], _++_}
 use Rattle.kit.specs.Each.{each}
-use Rattle.condition.specs.Slots.{slots}
+use Rattle.condition.specs.Slots.{slotCount}
 use Rattle.condition.specs.declared.slots.Slot.{Slot}
 use Rattle.telegram.specs.Tables.{tableSlot}
 use Rattle.listener.specs.Answers.{Outcome, aRefusal, aRepeat, aPart, aTable, Told, Hearing}
@@ -17,7 +17,7 @@ entryAt picture marks i = entryLine i (tableSlot picture i) (markAt marks i)
 
 -- G-04: a line for each occupied slot, ascending
 unfoldable pub pictureLines : List Slot → List Bool → List ℕ
-pictureLines picture marks = each (entryAt picture marks) 0 slots
+pictureLines picture marks = each (entryAt picture marks) 0 slotCount
 
 -- G-07: a refusal prints `refused N`; A-35: repeats and held telegrams print nothing
 abbrev pub refusalBy : Outcome → Told → List ℕ

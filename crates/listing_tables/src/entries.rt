@@ -14,7 +14,7 @@ ghost use Prim.Native.Nat.{_+_, _-_, _<_, _≤_};
 ghost use Rattle.page.specs.Pages.{Paged};
 ghost use Rattle.wire.specs.Distances.{noValue};
 ghost use Rattle.text.specs.Words.{blank};
-ghost use Rattle.listing_words.specs.Words.{lineFeed, minus, numberThen, distanceWord, markWord};
+ghost use Rattle.listing_words.specs.Words.{lineFeed, minus, numberThen, distanceText, markWord};
 ghost use Rattle.listing_seconds.specs.Seconds.{secondWord, systemWord, limitWord};
 ghost use Rattle.listing_entries.specs.Entries.{entryLine};
 ghost use Rattle.listing_lines.specs.Lines.{tableLine};
@@ -48,7 +48,7 @@ fn put_none(page: &mut [u8], at: usize) -> usize
 // A distance in metres, or `-` where it has no value.
 fn put_distance(page: &mut [u8], at: usize, word: u16) -> usize
     requires { ⌜ at + 9 ≤ length (now page) ⌝ }
-    ensures { λ r. ⌜ Paged 7 (now (page .entry)) at (distanceWord word ++ (blank ∷ [])) (now (page .exit)) r ⌝ }
+    ensures { λ r. ⌜ Paged 7 (now (page .entry)) at (distanceText word ++ (blank ∷ [])) (now (page .exit)) r ⌝ }
 {
     if word == NO_VALUE {
         return put_none(page, at);
@@ -123,7 +123,7 @@ fn put_numbers(page: &mut [u8], at: usize, place: u8, number: u8, kind: u8) -> u
 // What the first and the second word say.
 fn put_both(first: u16, body: Body, page: &mut [u8], at: usize) -> usize
     requires { ⌜ at + 19 ≤ length (now page) ⌝ }
-    ensures { λ r. ⌜ Paged 17 (now (page .entry)) at (distanceWord first ++ ((blank ∷ []) ++ (secondWord body ++ (blank ∷ [])))) (now (page .exit)) r ⌝ }
+    ensures { λ r. ⌜ Paged 17 (now (page .entry)) at (distanceText first ++ ((blank ∷ []) ++ (secondWord body ++ (blank ∷ [])))) (now (page .exit)) r ⌝ }
 {
     let next = put_distance(page, at, first);
     put_second(body, page, next)

@@ -27,8 +27,8 @@ metresWord (Metres metres) = decimal metres
 metresWord (Below metres) = minus ∷ decimal metres
 
 -- the same, of the word that codes the distance
-unfoldable pub distanceWord : ℕ → List ℕ
-distanceWord word = metresWord (distanceOf word)
+unfoldable pub distanceText : ℕ → List ℕ
+distanceText word = metresWord (distanceOf word)
 
 -- G-04
 abbrev pub newWord : List ℕ

@@ -9,26 +9,26 @@ use native.Mathlib.Omega.{arith}
 use borrow.Author.Tests.{eqb-true, eq-eqb, leb-true, le-leb}
 use Rattle.kit.proofs.Cases.{on, given, and-both}
 use Rattle.kit.proofs.Loops.{any-some, any-when}
-use Rattle.condition.specs.Slots.{emptySlot, isOccupied, kindOf, slots}
+use Rattle.condition.specs.Slots.{emptySlot, isOccupied, kindOf, slotCount}
 use Rattle.condition.specs.declared.slots.Slot.{Slot}
 use Rattle.telegram.specs.Tables.{tableSlot}
 use Rattle.marks.specs.Marks.{isSame, isKnown, isCarried, marksOf}
 
 -- L-06: the picture has the slot's number with its type
 abbrev pub InPicture : List Slot → Slot → Type 0
-InPicture before slot = (j : ℕ) × (j < slots) × (tableSlot before j .number ≡ slot .number) × (kindOf (tableSlot before j) ≡ kindOf slot)
+InPicture before slot = (j : ℕ) × (j < slotCount) × (tableSlot before j .number ≡ slot .number) × (kindOf (tableSlot before j) ≡ kindOf slot)
 
 module _ (before : List Slot) (slot : Slot) where
   known-there : isKnown before slot ≡ true → InPicture before slot
   unfolding isKnown isSame
   known-there h =
-      given (any-some _ 0 slots h)
+      given (any-some _ 0 slotCount h)
       (λ (j, from, below, t). given (and-both _ _ t) (λ (number, kind). (j, below, eqb-true _ _ number, eqb-true _ _ kind)))
 
   there-known : InPicture before slot → isKnown before slot ≡ true
   unfolding isKnown isSame
   there-known (j, below, number, kind) =
-      any-when _ 0 slots j (omega arith) (omega arith) (rw (eq-eqb (tableSlot before j .number) (slot .number) number, eq-eqb (kindOf (tableSlot before j)) (kindOf slot) kind) refl)
+      any-when _ 0 slotCount j (omega arith) (omega arith) (rw (eq-eqb (tableSlot before j .number) (slot .number) number, eq-eqb (kindOf (tableSlot before j)) (kindOf slot) kind) refl)
 
   -- L-06, both ways
   pub carried-exactly : (limit gap : ℕ)

@@ -14,32 +14,32 @@ use Rattle.kit.proofs.Cases.{on, given, and-both}
 use Rattle.kit.proofs.Each.{length-one-each, one-each-at}
 use Rattle.kit.proofs.Loops.{any-same, any-when}
 use Rattle.kit.proofs.Maps.{replicate-at}
-use Rattle.condition.specs.Slots.{isOccupied, slots}
+use Rattle.condition.specs.Slots.{isOccupied, slotCount}
 use Rattle.condition.specs.declared.slots.Slot.{Slot}
 use Rattle.telegram.specs.Tables.{tableSlot}
-use Rattle.memory.specs.Memory.{setFrom, slotPlace, slotAt, kindFrom, pictureIn, setIn}
+use Rattle.memory.specs.Memory.{setFrom, slotPlace, storedSlot, kindFrom, pictureIn, setIn}
 use Rattle.memory.proofs.Slots.{slot-in, length-table, slot-number, slot-occupied, slot-kind}
 use Rattle.marks.specs.Marks.{isSame, isKnown, isCarried, marksOf}
-use Rattle.marks.specs.Lent.{kindAt, hasBoth, isAlike, isThere, allThere, holds}
+use Rattle.marks.specs.Lent.{kindAt, hasBoth, isAlike, isThere, allThere, setHolds}
 use Rattle.marks.proofs.Carrying.{mark-at, none-carried}
 
 -- the slot whose bytes begin at `at`, occupied or not, is known when a slot of the picture has its number with its type
 module _ (memory : List ℕ) (at : ℕ) where
-  same-bytes : (j : ℕ) → j < slots → isSame (tableSlot (pictureIn memory) j) (slotAt memory at) ≡ hasBoth memory (getD memory at 0) (kindAt memory at) j
+  same-bytes : (j : ℕ) → j < slotCount → isSame (tableSlot (pictureIn memory) j) (storedSlot memory at) ≡ hasBoth memory (getD memory at 0) (kindAt memory at) j
   unfolding isSame
   same-bytes j p =
-      ap (λ before. isSame before (slotAt memory at)) (slot-in memory 0 j p)
+      ap (λ before. isSame before (storedSlot memory at)) (slot-in memory 0 j p)
       ∙ ap₂ _&&_ (ap₂ eqb (slot-number memory (slotPlace 0 j)) (slot-number memory at)) (ap₂ eqb (slot-kind memory (slotPlace 0 j)) (slot-kind memory at))
 
-  known-bytes : isKnown (pictureIn memory) (slotAt memory at) ≡ any (hasBoth memory (getD memory at 0) (kindAt memory at)) 0 slots
+  known-bytes : isKnown (pictureIn memory) (storedSlot memory at) ≡ any (hasBoth memory (getD memory at 0) (kindAt memory at)) 0 slotCount
   unfolding isKnown
   known-bytes =
-      any-same (λ j. isSame (tableSlot (pictureIn memory) j) (slotAt memory at)) (hasBoth memory (getD memory at 0) (kindAt memory at)) 0 slots
+      any-same (λ j. isSame (tableSlot (pictureIn memory) j) (storedSlot memory at)) (hasBoth memory (getD memory at 0) (kindAt memory at)) 0 slotCount
       (λ j low p. same-bytes j (omega arith))
 
 -- slot i of the set is occupied and known
 there-slot : (memory : List ℕ) (i : ℕ)
-    → isThere memory i ≡ isOccupied (slotAt memory (slotPlace setFrom i)) && isKnown (pictureIn memory) (slotAt memory (slotPlace setFrom i))
+    → isThere memory i ≡ isOccupied (storedSlot memory (slotPlace setFrom i)) && isKnown (pictureIn memory) (storedSlot memory (slotPlace setFrom i))
 unfolding isThere
 there-slot memory i = sym (ap₂ _&&_ (slot-occupied memory (slotPlace setFrom i)) (known-bytes memory (slotPlace setFrom i)))
 
@@ -49,14 +49,14 @@ module _ (memory : List ℕ) (i : ℕ) where
   abbrev number : ℕ
   number = getD memory (slotPlace setFrom i) 0
 
-  pub there-empty : holds memory i ≡ false → false ≡ isThere memory i
+  pub there-empty : setHolds memory i ≡ false → false ≡ isThere memory i
   unfolding isThere
   there-empty e = sym (rw e refl)
 
-  pub there-known : holds memory i ≡ true → (kind : ℕ) → kind ≡ kindAt memory (slotPlace setFrom i)
-      → (known : Bool) → known ≡ any (hasBoth memory number kind) 0 slots → known ≡ isThere memory i
+  pub there-known : setHolds memory i ≡ true → (kind : ℕ) → kind ≡ kindAt memory (slotPlace setFrom i)
+      → (known : Bool) → known ≡ any (hasBoth memory number kind) 0 slotCount → known ≡ isThere memory i
   unfolding isThere
-  there-known occupied kind same known e = e ∙ (ap (λ (k : ℕ). any (hasBoth memory number k) 0 slots) same ∙ sym (rw occupied refl))
+  there-known occupied kind same known e = e ∙ (ap (λ (k : ℕ). any (hasBoth memory number k) 0 slotCount) same ∙ sym (rw occupied refl))
 
   -- slots that begin alike have one number and one type
   alike-both : isAlike memory i ≡ true → hasBoth memory number (kindAt memory (slotPlace setFrom i)) i ≡ true
@@ -70,21 +70,21 @@ module _ (memory : List ℕ) (i : ℕ) where
       (eq-eqb (kindAt memory (slotPlace 0 i)) (kindAt memory (slotPlace setFrom i)) (sym (ap₂ kindFrom (eqb-true _ _ second) (eqb-true _ _ third))))))
 
   -- so an occupied slot that begins as the picture's does is there
-  pub there-alike : holds memory i ≡ true → i < slots → isAlike memory i ≡ true → true ≡ isThere memory i
+  pub there-alike : setHolds memory i ≡ true → i < slotCount → isAlike memory i ≡ true → true ≡ isThere memory i
   there-alike occupied p alike =
       there-known occupied (kindAt memory (slotPlace setFrom i)) refl true
-      (sym (any-when (hasBoth memory number (kindAt memory (slotPlace setFrom i))) 0 slots i (omega arith) (omega arith) (alike-both alike)))
+      (sym (any-when (hasBoth memory number (kindAt memory (slotPlace setFrom i))) 0 slotCount i (omega arith) (omega arith) (alike-both alike)))
 
 -- ---- marks
 
 module _ (memory : List ℕ) where
-  pub length-there : length (allThere memory) ≡ slots
+  pub length-there : length (allThere memory) ≡ slotCount
   unfolding allThere
-  length-there = length-one-each (isThere memory) slots
+  length-there = length-one-each (isThere memory) slotCount
 
-  pub there-at : (i : ℕ) → i < slots → getD (allThere memory) i false ≡ isThere memory i
+  pub there-at : (i : ℕ) → i < slotCount → getD (allThere memory) i false ≡ isThere memory i
   unfolding allThere
-  there-at i p = one-each-at (isThere memory) slots false i p
+  there-at i p = one-each-at (isThere memory) slotCount false i p
 
 module _ (limit gap : ℕ) (before : List Slot) (slot : Slot) where
   -- within the limit, what is known is carried; over no gap, and over one past the limit, nothing is
@@ -101,10 +101,10 @@ module _ (limit gap : ℕ) (memory : List ℕ) where
   abbrev marks : List Bool
   marks = marksOf limit gap (pictureIn memory) (setIn memory)
 
-  carried-at : (i : ℕ) → i < slots → getD marks i false ≡ isCarried limit gap (pictureIn memory) (slotAt memory (slotPlace setFrom i))
+  carried-at : (i : ℕ) → i < slotCount → getD marks i false ≡ isCarried limit gap (pictureIn memory) (storedSlot memory (slotPlace setFrom i))
   carried-at i p = mark-at limit gap (pictureIn memory) (setIn memory) i ∙ ap (isCarried limit gap (pictureIn memory)) (slot-in memory setFrom i p)
 
-  length-marks : length marks ≡ slots
+  length-marks : length marks ≡ slotCount
   unfolding marksOf
   length-marks = length-map (setIn memory) (isCarried limit gap (pictureIn memory)) ∙ length-table memory setFrom
 
@@ -112,12 +112,12 @@ module _ (limit gap : ℕ) (memory : List ℕ) where
   marks-there low high =
       ext-getD false (allThere memory) marks (length-there memory ∙ sym length-marks)
       (λ i p.
-      let q : i < slots = omega (arith, length-there memory) in
-      there-at memory i q ∙ (there-slot memory i ∙ sym (carried-at i q ∙ carried-within limit gap (pictureIn memory) (slotAt memory (slotPlace setFrom i)) low high)))
+      let q : i < slotCount = omega (arith, length-there memory) in
+      there-at memory i q ∙ (there-slot memory i ∙ sym (carried-at i q ∙ carried-within limit gap (pictureIn memory) (storedSlot memory (slotPlace setFrom i)) low high)))
 
-  pub marks-none : (gap ≡ 0) ⊎ (limit < gap) → replicate slots false ≡ marks
+  pub marks-none : (gap ≡ 0) ⊎ (limit < gap) → replicate slotCount false ≡ marks
   marks-none out =
-      ext-getD false (replicate slots false) marks (length-replicate slots false ∙ sym length-marks)
+      ext-getD false (replicate slotCount false) marks (length-replicate slotCount false ∙ sym length-marks)
       (λ i p.
-      let q : i < slots = omega (arith, length-replicate slots false) in
-      replicate-at slots i false ∙ sym (carried-at i q ∙ carried-beyond limit gap (pictureIn memory) (slotAt memory (slotPlace setFrom i)) out))
+      let q : i < slotCount = omega (arith, length-replicate slotCount false) in
+      replicate-at slotCount i false ∙ sym (carried-at i q ∙ carried-beyond limit gap (pictureIn memory) (storedSlot memory (slotPlace setFrom i)) out))

@@ -11,7 +11,7 @@ use borrow.Author.Tests.{eqb-true, eqb-false, ne-eqb}
 use Rattle.kit.specs.Loops.{any}
 use Rattle.kit.proofs.Cases.{on, clash}
 use Rattle.kit.proofs.Loops.{scan-none}
-use Rattle.condition.specs.Slots.{slots}
+use Rattle.condition.specs.Slots.{slotCount}
 use Rattle.memory.specs.Memory.{slotPlace}
 use Rattle.marks.specs.Lent.{Seen, hasBoth}
 
@@ -39,9 +39,9 @@ module _ (memory : List ℕ) where
         }
 
   -- no slot of the picture has a number that was not seen in any of them
-  pub unseen : (seen : List Bool) (number kind : ℕ) → Seen memory slots seen → getD seen number false ≡ false → any (hasBoth memory number kind) 0 slots ≡ false
+  pub unseen : (seen : List Bool) (number kind : ℕ) → Seen memory slotCount seen → getD seen number false ≡ false → any (hasBoth memory number kind) 0 slotCount ≡ false
   unseen seen number kind s off =
-      scan-none (hasBoth memory number kind) (λ j. true) false 0 slots
+      scan-none (hasBoth memory number kind) (λ j. true) false 0 slotCount
       (λ j low p.
       rw
       (ne-eqb (shown j) number

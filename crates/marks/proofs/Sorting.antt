@@ -10,12 +10,12 @@ use lib.Seq.{getD-set-same, getD-set-other, ext-getD}
 use native.Mathlib.Omega.{arith}
 use borrow.Author.Tests.{eqb-true, eqb-false}
 use Rattle.kit.proofs.Cases.{on, given}
-use Rattle.condition.specs.Slots.{slots}
-use Rattle.marks.specs.Lent.{isAlike, isThere, allThere, holds, IsMarked, IsOther, Sorted}
+use Rattle.condition.specs.Slots.{slotCount}
+use Rattle.marks.specs.Lent.{isAlike, isThere, allThere, setHolds, IsMarked, IsOther, Sorted}
 use Rattle.marks.proofs.Lent.{there-empty, there-alike, length-there, there-at}
 
 module _ (memory : List ℕ) where
-  pub sorted-none : (others : List ℕ) (marks : List Bool) → length marks ≡ slots → length others ≡ slots → Sorted memory 0 0 0 others marks
+  pub sorted-none : (others : List ℕ) (marks : List Bool) → length marks ≡ slotCount → length others ≡ slotCount → Sorted memory 0 0 0 others marks
   sorted-none others marks a b =
       record { either = λ j p. absurd (omega arith); other = λ m p. absurd (omega arith); few = omega arith; marks-long = a; others-long = b }
 
@@ -29,9 +29,9 @@ module _ (memory : List ℕ) where
     marked-beside j beside e = getD-set-other marks at j mark false beside ∙ e
 
   -- slot i becomes one of the others where it is occupied and not alike, and is marked otherwise
-  module _ (i n : ℕ) (others : List ℕ) (marks : List Bool) (room : i < slots) (s : Sorted memory i 0 n others marks) (mark : Bool) (next : ℕ) where
+  module _ (i n : ℕ) (others : List ℕ) (marks : List Bool) (room : i < slotCount) (s : Sorted memory i 0 n others marks) (mark : Bool) (next : ℕ) where
     abbrev Here : Type 0
-    Here = ((mark ≡ isThere memory i) × (next ≡ n)) ⊎ ((holds memory i ≡ true) × (next ≡ n + 1))
+    Here = ((mark ≡ isThere memory i) × (next ≡ n)) ⊎ ((setHolds memory i ≡ true) × (next ≡ n + 1))
 
     in-marks : i < length marks
     in-marks = omega (arith, s .marks-long)
@@ -52,7 +52,7 @@ module _ (memory : List ℕ) where
     either-before here j p (inr (m, low, q, e)) = inr (m, low, omega (arith, not-fewer here), getD-set-other others n m i 0 (omega arith) ∙ e)
 
     abbrev OtherAt : ℕ → Type 0
-    OtherAt k = (k < i + 1) × (holds memory k ≡ true)
+    OtherAt k = (k < i + 1) × (setHolds memory k ≡ true)
 
     other-before : (m : ℕ) → m < n → OtherAt (getD (set others n i) m 0)
     other-before m p =
@@ -85,14 +85,14 @@ module _ (memory : List ℕ) where
         }
 
     -- which of the two it is, by its tests
-    pub sorted-more : (alike occupied : Bool) (more : ℕ) → alike ≡ isAlike memory i → occupied ≡ holds memory i → mark ≡ alike && occupied
+    pub sorted-more : (alike occupied : Bool) (more : ℕ) → alike ≡ isAlike memory i → occupied ≡ setHolds memory i → mark ≡ alike && occupied
         → more ≡ cond (not alike && occupied) 1 0 → next ≡ n + more → Sorted memory (i + 1) 0 next (set others n i) (set marks i mark)
     sorted-more true true more a o m p q = sorted-here (inl (m ∙ there-alike memory i (sym o) room (sym a), omega arith))
     sorted-more false true more a o m p q = sorted-here (inr (sym o, omega arith))
     sorted-more true false more a o m p q = sorted-here (inl (m ∙ there-empty memory i (sym o), omega arith))
     sorted-more false false more a o m p q = sorted-here (inl (m ∙ there-empty memory i (sym o), omega arith))
 
-  module _ (k n : ℕ) (others : List ℕ) (marks : List Bool) (s : Sorted memory slots k n others marks) where
+  module _ (k n : ℕ) (others : List ℕ) (marks : List Bool) (s : Sorted memory slotCount k n others marks) where
     -- one of the others is marked
     module _ (p : k < n) where
       abbrev at : ℕ
@@ -106,7 +106,7 @@ module _ (memory : List ℕ) where
           (λ same. absurd (beside (sym e ∙ ap (λ (l : ℕ). getD others l 0) (eqb-true m k same))))
           (λ other. inr (m, omega (arith, eqb-false m k other), q, e))
 
-      pub sorted-next : (mark : Bool) → mark ≡ isThere memory at → Sorted memory slots (k + 1) n others (set marks at mark)
+      pub sorted-next : (mark : Bool) → mark ≡ isThere memory at → Sorted memory slotCount (k + 1) n others (set marks at mark)
       sorted-next mark right =
           let inside : at < length marks = omega (arith, s .other k p .0, s .marks-long) in
           record {
@@ -129,5 +129,5 @@ module _ (memory : List ℕ) where
     sorted-all past =
         ext-getD false marks (allThere memory) (s .marks-long ∙ sym (length-there memory))
         (λ j p.
-        let q : j < slots = omega (arith, s .marks-long) in
+        let q : j < slotCount = omega (arith, s .marks-long) in
         marked past j (s .either j q) ∙ sym (there-at memory j q))

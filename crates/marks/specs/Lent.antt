@@ -8,7 +8,7 @@ use lib.Dec.{eqb}
 use lib.ListN.{length, getD}
 use Rattle.kit.specs.Each.{each}
 use Rattle.kit.specs.Loops.{any}
-use Rattle.condition.specs.Slots.{slots}
+use Rattle.condition.specs.Slots.{slotCount}
 use Rattle.memory.specs.Memory.{setFrom, slotPlace, kindFrom, isSet}
 
 -- the type of the slot whose bytes begin at `at`
@@ -30,19 +30,19 @@ isAlike memory i =
 unfoldable pub isThere : List ℕ → ℕ → Bool
 isThere memory i =
     isSet (getD memory (slotPlace setFrom i + 1) 0)
-    && any (hasBoth memory (getD memory (slotPlace setFrom i) 0) (kindAt memory (slotPlace setFrom i))) 0 slots
+    && any (hasBoth memory (getD memory (slotPlace setFrom i) 0) (kindAt memory (slotPlace setFrom i))) 0 slotCount
 
 -- the same of each slot
 unfoldable pub allThere : List ℕ → List Bool
-allThere memory = each (λ i. isThere memory i ∷ []) 0 slots
+allThere memory = each (λ i. isThere memory i ∷ []) 0 slotCount
 
 -- a number of four bytes whose lower three, lowest first, are these
 abbrev pub IsHead : ℕ → ℕ → ℕ → ℕ → Type 0
 IsHead number shape own head = (head % 256 ≡ number) × (head / 256 % 256 ≡ shape) × (head / 0x10000 % 256 ≡ own)
 
 -- slot i of the set is occupied
-abbrev pub holds : List ℕ → ℕ → Bool
-holds memory i = isSet (getD memory (slotPlace setFrom i + 1) 0)
+abbrev pub setHolds : List ℕ → ℕ → Bool
+setHolds memory i = isSet (getD memory (slotPlace setFrom i + 1) 0)
 
 -- the mark of slot j says whether it is there
 abbrev pub IsMarked : List ℕ → List Bool → ℕ → Type 0
@@ -55,10 +55,10 @@ IsOther others k n j = (m : ℕ) × (k ≤ m) × (m < n) × (getD others m 0 ≡
 -- each of the first i slots is marked or is one of the others from number k on; and the n others are occupied slots among them
 pub record Sorted (memory : List ℕ) (i k n : ℕ) (others : List ℕ) (marks : List Bool) : Type 0 where
   pub either : (j : ℕ) → j < i → IsMarked memory marks j ⊎ IsOther others k n j
-  pub other : (m : ℕ) → m < n → (getD others m 0 < i) × (holds memory (getD others m 0) ≡ true)
+  pub other : (m : ℕ) → m < n → (getD others m 0 < i) × (setHolds memory (getD others m 0) ≡ true)
   pub few : n ≤ i
-  pub marks-long : length marks ≡ slots
-  pub others-long : length others ≡ slots
+  pub marks-long : length marks ≡ slotCount
+  pub others-long : length others ≡ slotCount
 
 -- the numbers of the first i slots of the picture have their flags set
 pub record Seen (memory : List ℕ) (i : ℕ) (seen : List Bool) : Type 0 where

@@ -5,7 +5,7 @@ use mathlib.Core.Bool.{Bool, _&&_}
 use mathlib.Core.List.{List, map}
 use lib.Dec.{eqb, leb}
 use Rattle.kit.specs.Loops.{any}
-use Rattle.condition.specs.Slots.{isOccupied, kindOf, slots}
+use Rattle.condition.specs.Slots.{isOccupied, kindOf, slotCount}
 use Rattle.condition.specs.declared.slots.Slot.{Slot}
 use Rattle.telegram.specs.Tables.{tableSlot}
 
@@ -15,7 +15,7 @@ isSame before slot = eqb (before .number) (slot .number) && eqb (kindOf before) 
 
 -- L-06: the previous picture has it, in any slot
 unfoldable pub isKnown : List Slot → Slot → Bool
-isKnown before slot = any (λ j. isSame (tableSlot before j) slot) 0 slots
+isKnown before slot = any (λ j. isSame (tableSlot before j) slot) 0 slotCount
 
 -- L-06: an entry is carried if the gap is 1 to the limit, which is 8 in document 01, and the previous picture has the same number
 -- with the same type; otherwise it is new

@@ -10,10 +10,10 @@ ghost use mathlib.Core.Bool.{cond, not, true, false, _&&_};
 ghost use mathlib.Core.Path.{_≡_};
 ghost use lib.ListN.{length, getD, set};
 ghost use Rattle.kit.specs.Loops.{any};
-ghost use Rattle.condition.specs.Slots.{slots};
+ghost use Rattle.condition.specs.Slots.{slotCount};
 ghost use Rattle.memory.specs.Memory.{kindFrom, pictureIn, setIn};
 ghost use Rattle.marks.specs.Marks.{marksOf};
-ghost use Rattle.marks.specs.Lent.{hasBoth, isAlike, isThere, allThere, IsHead, holds, Sorted, Seen};
+ghost use Rattle.marks.specs.Lent.{hasBoth, isAlike, isThere, allThere, IsHead, setHolds, Sorted, Seen};
 
 // One more than the greatest number of three bytes.
 const THREE_BYTES: u32 = 0x1000000;
@@ -44,7 +44,7 @@ fn has_both(memory: &[u8; 310], j: usize, number: u8, kind: u8) -> bool
 
 // Whether any slot of the picture has them.
 fn is_known(memory: &[u8; 310], number: u8, kind: u8) -> bool
-    ensures { λ r. ⌜ r ≡ any (hasBoth (now (memory .entry)) number kind) 0 slots ⌝ }
+    ensures { λ r. ⌜ r ≡ any (hasBoth (now (memory .entry)) number kind) 0 slotCount ⌝ }
 {
     let mut j: usize = 0;
     while j < SLOTS {
@@ -84,7 +84,7 @@ fn is_alike(memory: &[u8; 310], i: usize) -> bool
 // Whether slot i of the set is occupied.
 fn is_occupied(memory: &[u8; 310], i: usize) -> bool
     requires { ⌜ i < 20 ⌝ }
-    ensures { λ r. ⌜ r ≡ holds (now (memory .entry)) i ⌝ }
+    ensures { λ r. ⌜ r ≡ setHolds (now (memory .entry)) i ⌝ }
 {
     head_at(memory, SET + SLOT * i) / 256 % 256 != 0
 }
@@ -126,8 +126,8 @@ fn sort_one(
 
 // Each slot is sorted so. The answer is how many others there are.
 fn sort_out(memory: &[u8; 310], marks: &mut [bool; 20], others: &mut [usize; 20]) -> usize
-    requires { ⌜ (length (now marks) ≡ slots) × (length (now others) ≡ slots) ⌝ }
-    ensures { λ r. ⌜ Sorted (now (memory .entry)) slots 0 r (now (others .exit)) (now (marks .exit)) ⌝ }
+    requires { ⌜ (length (now marks) ≡ slotCount) × (length (now others) ≡ slotCount) ⌝ }
+    ensures { λ r. ⌜ Sorted (now (memory .entry)) slotCount 0 r (now (others .exit)) (now (marks .exit)) ⌝ }
 {
     let mut count: usize = 0;
     let mut i: usize = 0;
@@ -148,7 +148,7 @@ fn see(seen: &mut [bool; 256], number: u8)
 // The number of each slot of the picture is seen, an empty one's too.
 fn see_all(memory: &[u8; 310], seen: &mut [bool; 256])
     requires { ⌜ length (now seen) ≡ 256 ⌝ }
-    ensures { λ _. ⌜ Seen (now (memory .entry)) slots (now (seen .exit)) ⌝ }
+    ensures { λ _. ⌜ Seen (now (memory .entry)) slotCount (now (seen .exit)) ⌝ }
 {
     let mut k: usize = 0;
     while k < SLOTS {
@@ -166,7 +166,7 @@ fn is_seen(seen: &[bool; 256], number: u8) -> bool
 
 // Whether the picture has the number of slot i, which is occupied, with its type. A number that was not seen need not be searched for.
 fn is_there(memory: &[u8; 310], seen: &[bool; 256], i: usize) -> bool
-    requires { ⌜ (i < 20) × (holds (now memory) i ≡ true) × Seen (now memory) slots (now seen) ⌝ }
+    requires { ⌜ (i < 20) × (setHolds (now memory) i ≡ true) × Seen (now memory) slotCount (now seen) ⌝ }
     ensures { λ r. ⌜ r ≡ isThere (now (memory .entry)) i ⌝ }
 {
     let at = SET + SLOT * i;
@@ -179,7 +179,7 @@ fn is_there(memory: &[u8; 310], seen: &[bool; 256], i: usize) -> bool
 
 // Each of the others is marked if the picture has it.
 fn look_up(memory: &[u8; 310], others: &[usize; 20], count: usize, marks: &mut [bool; 20])
-    requires { ⌜ Sorted (now memory) slots 0 count (now others) (now marks) ⌝ }
+    requires { ⌜ Sorted (now memory) slotCount 0 count (now others) (now marks) ⌝ }
     ensures { λ _. ⌜ now (marks .exit) ≡ allThere (now (memory .entry)) ⌝ }
 {
     let mut seen = [false; 256];

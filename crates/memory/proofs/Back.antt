@@ -9,7 +9,7 @@ use native.Mathlib.Omega.{arith}
 use Rattle.kit.proofs.Each.{length-each, each-at}
 use Rattle.kit.proofs.Maps.{map-at}
 use Rattle.kit.proofs.Stores.{sets-in}
-use Rattle.condition.specs.Slots.{emptySlot, slots}
+use Rattle.condition.specs.Slots.{emptySlot, slotCount}
 use Rattle.condition.specs.declared.slots.Slot.{Slot}
 use Rattle.telegram.specs.Tables.{tableSlot}
 use Rattle.memory.specs.Memory.{slotRoom, slotPlace, tableAt, slotBytes, tableBytes, isSet, flagByte, flagsAt}
@@ -24,25 +24,25 @@ module _ (table : List Slot) where
   abbrev sized : (i : ℕ) → length (bytes i) ≡ slotRoom
   sized i = slot-length (tableSlot table i)
 
-  pub table-length : length (tableBytes table) ≡ slotRoom * slots
+  pub table-length : length (tableBytes table) ≡ slotRoom * slotCount
   unfolding tableBytes
-  table-length = length-each bytes slotRoom sized 0 slots
+  table-length = length-each bytes slotRoom sized 0 slotCount
 
   -- byte r of slot i among its bytes
-  byte-at : (i r : ℕ) → i < slots → r < slotRoom → getD (tableBytes table) (i * slotRoom + r) 0 ≡ getD (bytes i) (0 + r) 0
+  byte-at : (i r : ℕ) → i < slotCount → r < slotRoom → getD (tableBytes table) (i * slotRoom + r) 0 ≡ getD (bytes i) (0 + r) 0
   unfolding tableBytes
   byte-at i r p q =
       let slot : 0 + i ≡ i = omega arith in
       let byte : r ≡ 0 + r = omega arith in
-      each-at bytes slotRoom sized 0 0 slots i r p q ∙ (λ t. getD (bytes (slot t)) (byte t) 0)
+      each-at bytes slotRoom sized 0 0 slotCount i r p q ∙ (λ t. getD (bytes (slot t)) (byte t) 0)
 
   module _ (memory : List ℕ) (from : ℕ) where
-    pub table-back : length table ≡ slots → from + slotRoom * slots ≤ length memory → tableAt (sets memory from (tableBytes table)) from ≡ table
+    pub table-back : length table ≡ slotCount → from + slotRoom * slotCount ≤ length memory → tableAt (sets memory from (tableBytes table)) from ≡ table
     table-back twenty fits =
         let after = sets memory from (tableBytes table) in
         ext-getD emptySlot (tableAt after from) table (length-table after from ∙ sym twenty)
         (λ i p.
-        let q : i < slots = omega (arith, length-table after from) in
+        let q : i < slotCount = omega (arith, length-table after from) in
         slot-in after from i q
         ∙ (slot-same after (bytes i) (slotPlace from i) 0
         (λ r s.

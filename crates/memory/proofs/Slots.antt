@@ -10,27 +10,27 @@ use lib.Seq.{sets, length-sets, ext-getD, getD-set-same, getD-set-other}
 use native.Mathlib.Omega.{arith}
 use native.Mathlib.Nat.{add-zero}
 use borrow.Author.Tests.{eqb-true, eqb-false, ltb-true, ltb-false}
-use Rattle.kit.specs.Bytes.{word}
+use Rattle.kit.specs.Bytes.{wordOfTwo}
 use Rattle.kit.proofs.Cases.{on}
 use Rattle.kit.proofs.Each.{length-one-each, one-each-at}
 use Rattle.kit.proofs.Stores.{sets-in, sets-out}
-use Rattle.condition.specs.Slots.{emptySlot, slots, isFilled, isOccupied, coding, codedOf, kindOf}
+use Rattle.condition.specs.Slots.{emptySlot, slotCount, isFilled, isOccupied, coding, codedOf, kindOf}
 use Rattle.condition.specs.declared.slots.Body.{Body}
 use Rattle.condition.specs.declared.slots.Body.the-variants.{Empty, Area, Traction, Current}
 use Rattle.condition.specs.declared.slots.Slot.{Slot}
 use Rattle.telegram.specs.Tables.{tableSlot}
-use Rattle.memory.specs.Memory.{room, slotRoom, setFrom, slotPlace, bodyFrom, kindFrom, slotAt, tableAt, bodyBytes, slotBytes, withSlot, isSet, flagsAt, setIn}
+use Rattle.memory.specs.Memory.{memorySize, slotRoom, setFrom, slotPlace, bodyFrom, kindFrom, storedSlot, tableAt, bodyBytes, slotBytes, withSlot, isSet, flagsAt, setIn}
 
 -- ---- at an index
 
 module _ (memory : List ℕ) (from : ℕ) where
-  pub slot-in : (i : ℕ) → i < slots → tableSlot (tableAt memory from) i ≡ slotAt memory (slotPlace from i)
+  pub slot-in : (i : ℕ) → i < slotCount → tableSlot (tableAt memory from) i ≡ storedSlot memory (slotPlace from i)
   unfolding tableAt
-  slot-in i p = one-each-at (λ i. slotAt memory (slotPlace from i)) slots emptySlot i p
+  slot-in i p = one-each-at (λ i. storedSlot memory (slotPlace from i)) slotCount emptySlot i p
 
-  pub length-table : length (tableAt memory from) ≡ slots
+  pub length-table : length (tableAt memory from) ≡ slotCount
   unfolding tableAt
-  length-table = length-one-each (λ i. slotAt memory (slotPlace from i)) slots
+  length-table = length-one-each (λ i. storedSlot memory (slotPlace from i)) slotCount
 
   pub flag-in : (n k : ℕ) → k < n → getD (flagsAt memory from n) k false ≡ isSet (getD memory (from + k) 0)
   unfolding flagsAt
@@ -46,8 +46,8 @@ module _ (memory : List ℕ) (from : ℕ) where
 abbrev pub Same : ℕ → List ℕ → ℕ → List ℕ → ℕ → Type 0
 Same n a x b y = (r : ℕ) → r < n → getD a (x + r) 0 ≡ getD b (y + r) 0
 
-pub slot-same : (a b : List ℕ) (x y : ℕ) → Same slotRoom a x b y → slotAt a x ≡ slotAt b y
-unfolding slotAt
+pub slot-same : (a b : List ℕ) (x y : ℕ) → Same slotRoom a x b y → storedSlot a x ≡ storedSlot b y
+unfolding storedSlot
 slot-same a b x y same =
     let number : getD a x 0 ≡ getD b y 0 =
     sym (ap (λ (n : ℕ). getD a n 0) (add-zero x)) ∙ (same 0 (omega arith) ∙ ap (λ (n : ℕ). getD b n 0) (add-zero y)) in
@@ -55,28 +55,28 @@ slot-same a b x y same =
       number = number t;
       body =
           bodyFrom (same 1 (omega arith) t) (same 2 (omega arith) t)
-          (word (same 3 (omega arith) t) (same 4 (omega arith) t))
-          (word (same 5 (omega arith) t) (same 6 (omega arith) t));
+          (wordOfTwo (same 3 (omega arith) t) (same 4 (omega arith) t))
+          (wordOfTwo (same 5 (omega arith) t) (same 6 (omega arith) t));
     }
 
 -- zeros are an empty slot
-pub slot-zero : (memory : List ℕ) (at : ℕ) → ((r : ℕ) → r < slotRoom → getD memory (at + r) 0 ≡ 0) → slotAt memory at ≡ emptySlot
-unfolding slotAt bodyFrom
+pub slot-zero : (memory : List ℕ) (at : ℕ) → ((r : ℕ) → r < slotRoom → getD memory (at + r) 0 ≡ 0) → storedSlot memory at ≡ emptySlot
+unfolding storedSlot bodyFrom
 slot-zero memory at zeros =
     let number : getD memory at 0 ≡ 0 = sym (ap (λ (n : ℕ). getD memory n 0) (add-zero at)) ∙ zeros 0 (omega arith) in
     λ t. record {
       number = number t;
       body =
           bodyFrom (zeros 1 (omega arith) t) (zeros 2 (omega arith) t)
-          (word (zeros 3 (omega arith) t) (zeros 4 (omega arith) t))
-          (word (zeros 5 (omega arith) t) (zeros 6 (omega arith) t));
+          (wordOfTwo (zeros 3 (omega arith) t) (zeros 4 (omega arith) t))
+          (wordOfTwo (zeros 5 (omega arith) t) (zeros 6 (omega arith) t));
     }
 
-pub table-same : (a b : List ℕ) (x y : ℕ) → Same (slotRoom * slots) a x b y → tableAt a x ≡ tableAt b y
+pub table-same : (a b : List ℕ) (x y : ℕ) → Same (slotRoom * slotCount) a x b y → tableAt a x ≡ tableAt b y
 table-same a b x y same =
     ext-getD emptySlot (tableAt a x) (tableAt b y) (length-table a x ∙ sym (length-table b y))
     (λ i p.
-    let q : i < slots = omega (arith, length-table a x) in
+    let q : i < slotCount = omega (arith, length-table a x) in
     slot-in a x i q
     ∙ (slot-same a b (slotPlace x i) (slotPlace y i)
     (λ r s.
@@ -106,7 +106,7 @@ same-in stored memory at k n p fits r q =
 -- ---- a slot and its bytes
 
 -- a word is put together again from its two bytes
-pub word-back : (w : ℕ) → word (w / 256) (w % 256) ≡ w
+pub word-back : (w : ℕ) → wordOfTwo (w / 256) (w % 256) ≡ w
 word-back w = omega arith
 
 body-length : (number : ℕ) (body : Body) → length (bodyBytes number body) ≡ slotRoom
@@ -120,14 +120,14 @@ unfolding slotBytes
 slot-length slot = body-length (slot .number) (slot .body)
 
 -- any slot is read back from its bytes
-body-back : (number : ℕ) (body : Body) → slotAt (bodyBytes number body) 0 ≡ record { number = number; body = body }
-unfolding slotAt bodyFrom
+body-back : (number : ℕ) (body : Body) → storedSlot (bodyBytes number body) 0 ≡ record { number = number; body = body }
+unfolding storedSlot bodyFrom
 body-back number Empty = refl
 body-back number (Area kind entry exit) = λ t. record { number = number; body = Area kind (word-back entry t) (word-back exit t) }
 body-back number (Traction change country voltage) = λ t. record { number = number; body = Traction (word-back change t) (word-back country t) voltage }
 body-back number (Current change limit) = λ t. record { number = number; body = Current (word-back change t) (word-back limit t) }
 
-pub slot-back : (slot : Slot) → slotAt (slotBytes slot) 0 ≡ slot
+pub slot-back : (slot : Slot) → storedSlot (slotBytes slot) 0 ≡ slot
 unfolding slotBytes
 slot-back slot = body-back (slot .number) (slot .body)
 
@@ -148,16 +148,16 @@ body-kind number shape own first second =
     (λ e. on (eqb shape 1) (λ f. rw (e, f) refl) (λ f. on (eqb shape 2) (λ g. rw (e, f, g) refl) (λ g. rw (e, f, g) refl)))
 
 module _ (memory : List ℕ) (at : ℕ) where
-  pub slot-number : slotAt memory at .number ≡ getD memory at 0
-  unfolding slotAt
+  pub slot-number : storedSlot memory at .number ≡ getD memory at 0
+  unfolding storedSlot
   slot-number = refl
 
-  pub slot-occupied : isOccupied (slotAt memory at) ≡ isSet (getD memory (at + 1) 0)
-  unfolding slotAt
+  pub slot-occupied : isOccupied (storedSlot memory at) ≡ isSet (getD memory (at + 1) 0)
+  unfolding storedSlot
   slot-occupied = body-filled (getD memory (at + 1) 0) _ _ _
 
-  pub slot-kind : kindOf (slotAt memory at) ≡ kindFrom (getD memory (at + 1) 0) (getD memory (at + 2) 0)
-  unfolding slotAt codedOf
+  pub slot-kind : kindOf (storedSlot memory at) ≡ kindFrom (getD memory (at + 1) 0) (getD memory (at + 2) 0)
+  unfolding storedSlot codedOf
   slot-kind = body-kind (getD memory at 0) (getD memory (at + 1) 0) (getD memory (at + 2) 0) _ _
 
 -- ---- a slot put into the set in hand
@@ -166,21 +166,21 @@ pub length-with : (memory : List ℕ) (i : ℕ) (slot : Slot) → length (withSl
 unfolding withSlot
 length-with memory i slot = length-sets memory (slotPlace setFrom i) (slotBytes slot)
 
-module _ (memory : List ℕ) (long : length memory ≡ room) (i : ℕ) (slot : Slot) where
+module _ (memory : List ℕ) (long : length memory ≡ memorySize) (i : ℕ) (slot : Slot) where
   -- the set has it
-  pub set-with : i < slots → setIn (withSlot memory i slot) ≡ set (setIn memory) i slot
+  pub set-with : i < slotCount → setIn (withSlot memory i slot) ≡ set (setIn memory) i slot
   unfolding withSlot
   set-with p =
       let fits : slotPlace setFrom i + length (slotBytes slot) ≤ length memory = omega (arith, slot-length slot, long) in
       ext-getD emptySlot (setIn (withSlot memory i slot)) (set (setIn memory) i slot)
       (length-table (withSlot memory i slot) setFrom ∙ sym (length-set (setIn memory) i slot ∙ length-table memory setFrom))
       (λ j q.
-      let inside : j < slots = omega (arith, length-table (withSlot memory i slot) setFrom) in
+      let inside : j < slotCount = omega (arith, length-table (withSlot memory i slot) setFrom) in
       slot-in (withSlot memory i slot) setFrom j inside
       ∙ on (eqb j i)
       (λ e.
       let same : j ≡ i = eqb-true j i e in
-      ap (λ (k : ℕ). slotAt (withSlot memory i slot) (slotPlace setFrom k)) same
+      ap (λ (k : ℕ). storedSlot (withSlot memory i slot) (slotPlace setFrom k)) same
       ∙ (slot-same (withSlot memory i slot) (slotBytes slot) (slotPlace setFrom i) 0
       (λ r s.
       sets-in 0 (slotBytes slot) memory (slotPlace setFrom i) r (omega (arith, slot-length slot)) fits ∙ ap (λ (n : ℕ). getD (slotBytes slot) n 0) (zero-before r))

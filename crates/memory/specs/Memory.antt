@@ -16,9 +16,9 @@ use mathlib.Core.List.{List, [], _∷_, _++_, map}
 use lib.Dec.{eqb}
 use lib.ListN.{getD, drop}
 use lib.Seq.{sets}
-use Rattle.kit.specs.Bytes.{word, wordBytes}
+use Rattle.kit.specs.Bytes.{wordOfTwo, wordBytes}
 use Rattle.kit.specs.Each.{each}
-use Rattle.condition.specs.Slots.{slots}
+use Rattle.condition.specs.Slots.{slotCount}
 use Rattle.condition.specs.declared.slots.Body.{Body}
 use Rattle.condition.specs.declared.slots.Body.the-variants.{Empty, Area, Traction, Current}
 use Rattle.condition.specs.declared.slots.Slot.{Slot}
@@ -27,8 +27,8 @@ use Rattle.telegram.specs.Tables.{tableSlot}
 -- ---- where things stand
 
 -- how many bytes the memory has
-abbrev pub room : ℕ
-room = 310
+abbrev pub memorySize : ℕ
+memorySize = 310
 
 -- how many a slot has
 abbrev pub slotRoom : ℕ
@@ -64,19 +64,19 @@ bodyFrom shape own first second =
     (Current first second)))
 
 -- the slot whose bytes begin at `at`
-unfoldable pub slotAt : List ℕ → ℕ → Slot
-slotAt memory at =
+unfoldable pub storedSlot : List ℕ → ℕ → Slot
+storedSlot memory at =
     record {
       number = getD memory at 0;
       body =
           bodyFrom (getD memory (at + 1) 0) (getD memory (at + 2) 0)
-          (word (getD memory (at + 3) 0) (getD memory (at + 4) 0))
-          (word (getD memory (at + 5) 0) (getD memory (at + 6) 0));
+          (wordOfTwo (getD memory (at + 3) 0) (getD memory (at + 4) 0))
+          (wordOfTwo (getD memory (at + 5) 0) (getD memory (at + 6) 0));
     }
 
 -- the table of twenty slots that begins at `from`
 unfoldable pub tableAt : List ℕ → ℕ → List Slot
-tableAt memory from = each (λ i. slotAt memory (slotPlace from i) ∷ []) 0 slots
+tableAt memory from = each (λ i. storedSlot memory (slotPlace from i) ∷ []) 0 slotCount
 
 -- the type of such a slot, 0 of an empty one
 unfoldable pub kindFrom : ℕ → ℕ → ℕ
@@ -94,7 +94,7 @@ slotBytes slot = bodyBytes (slot .number) (slot .body)
 
 -- the bytes of a table
 unfoldable pub tableBytes : List Slot → List ℕ
-tableBytes table = each (λ i. slotBytes (tableSlot table i)) 0 slots
+tableBytes table = each (λ i. slotBytes (tableSlot table i)) 0 slotCount
 
 -- the memory with slot i of the set in hand put in; past the twentieth nothing is put
 unfoldable pub withSlot : List ℕ → ℕ → Slot → List ℕ
@@ -129,7 +129,7 @@ abbrev pub pictureIn : List ℕ → List Slot
 pictureIn memory = tableAt memory 0
 
 abbrev pub marksIn : List ℕ → List Bool
-marksIn memory = flagsAt memory marksFrom slots
+marksIn memory = flagsAt memory marksFrom slotCount
 
 abbrev pub setIn : List ℕ → List Slot
 setIn memory = tableAt memory setFrom

@@ -9,7 +9,7 @@ ghost use lib.ListN.{getD};
 ghost use lib.Seq.{sets};
 ghost use Rattle.kit.specs.Bytes.{wordBytes};
 ghost use Rattle.telegram.specs.Tables.{tableSlot};
-ghost use Rattle.memory.specs.Memory.{setFrom, bodyFrom, slotAt, tableAt, slotBytes, tableBytes, withSlot, withPicture, withMarks, pictureIn, setIn, marksIn};
+ghost use Rattle.memory.specs.Memory.{setFrom, bodyFrom, storedSlot, tableAt, slotBytes, tableBytes, withSlot, withPicture, withMarks, pictureIn, setIn, marksIn};
 ghost use mathlib.Core.Bool.{false};
 
 // How many bytes the memory has.
@@ -51,7 +51,7 @@ fn body_of(shape: u8, own: u8, first: u16, second: u16) -> Body
 // The slot whose bytes begin at `at`.
 fn slot_at(memory: &[u8; 310], at: usize) -> Slot
     requires { ⌜ at + 7 ≤ 310 ⌝ }
-    ensures { λ r. ⌜ r ≡ slotAt (now (memory .entry)) at ⌝ }
+    ensures { λ r. ⌜ r ≡ storedSlot (now (memory .entry)) at ⌝ }
 {
     let first = wire::word(memory[at + 3], memory[at + 4]);
     let second = wire::word(memory[at + 5], memory[at + 6]);

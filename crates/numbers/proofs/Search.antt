@@ -16,29 +16,29 @@ use Rattle.kit.proofs.Cases.{on, clash, given, or-neither, and-both}
 use Rattle.kit.proofs.Loops.{scan-at, find-before, found-there, found-when, any-none, any-some}
 use Rattle.kit.proofs.Member.{member-map, member-append, pigeonhole}
 use Rattle.places.specs.Places.{placeAt, freePlace}
-use Rattle.condition.specs.Slots.{slots}
+use Rattle.condition.specs.Slots.{slotCount}
 use Rattle.places.specs.declared.Place.{Place}
 use Rattle.numbers.specs.Numbers.{hasNumber, isPermitted, numberAfter, nextNumber}
 
 -- ---- the numbers of live orders (D-12)
 
-pub number-none : (places : List Place) (n i : ℕ) → hasNumber places n ≡ false → i < slots → placeAt places i .slot .number ≡ n → ⊥
+pub number-none : (places : List Place) (n i : ℕ) → hasNumber places n ≡ false → i < slotCount → placeAt places i .slot .number ≡ n → ⊥
 unfolding hasNumber
 number-none places n i h p e =
     clash (eq-eqb (placeAt places i .slot .number) n e)
-    (any-none (λ i. eqb (placeAt places i .slot .number) n) 0 slots h i (omega arith) (omega arith))
+    (any-none (λ i. eqb (placeAt places i .slot .number) n) 0 slotCount h i (omega arith) (omega arith))
 
-pub number-some : (places : List Place) (n : ℕ) → hasNumber places n ≡ true → (i : ℕ) × (i < slots) × (placeAt places i .slot .number ≡ n)
+pub number-some : (places : List Place) (n : ℕ) → hasNumber places n ≡ true → (i : ℕ) × (i < slotCount) × (placeAt places i .slot .number ≡ n)
 unfolding hasNumber
 number-some places n h =
-    given (any-some (λ i. eqb (placeAt places i .slot .number) n) 0 slots h)
+    given (any-some (λ i. eqb (placeAt places i .slot .number) n) 0 slotCount h)
     (λ (i, a, b, e). (i, omega arith, eqb-true (placeAt places i .slot .number) n e))
 
 -- the numbers of twenty places cover those that live orders have
 abbrev placed : List Place → List ℕ
 placed places = map (λ (p : Place). p .slot .number) places
 
-covers-placed : (places : List Place) → length places ≡ slots → (n : ℕ) → hasNumber places n ≡ true → member n (placed places) ≡ true
+covers-placed : (places : List Place) → length places ≡ slotCount → (n : ℕ) → hasNumber places n ≡ true → member n (placed places) ≡ true
 covers-placed places twenty n h =
     given (number-some places n h)
     (λ (i, p, same).
@@ -88,7 +88,7 @@ module _ (resting : ℕ → Bool) (places : List Place) where
         })
 
 module _ (resting : ℕ → Bool) (kept : List ℕ) (covered : (n : ℕ) → resting n ≡ true → member n kept ≡ true) (few : length kept ≤ 220)
-    (places : List Place) (twenty : length places ≡ slots) (last : ℕ) where
+    (places : List Place) (twenty : length places ≡ slotCount) (last : ℕ) where
   -- D-15, A-07: there always is a permitted number
   pub permitted-exists : (i : ℕ) × (i < 255) × (isPermitted resting places (numberAfter last i) ≡ true)
   permitted-exists =
@@ -125,7 +125,7 @@ module _ (resting : ℕ → Bool) (kept : List ℕ) (covered : (n : ℕ) → res
   number-range = given search-found (λ found. (omega (arith, found .after), omega (arith, found .after)))
 
   -- D-12: no live order has it, and it does not rest
-  pub number-idle : (i : ℕ) → i < slots → placeAt places i .slot .number ≡ nextNumber resting places last → ⊥
+  pub number-idle : (i : ℕ) → i < slotCount → placeAt places i .slot .number ≡ nextNumber resting places last → ⊥
   number-idle i p e =
       number-none places (nextNumber resting places last) i (permitted-only resting places (nextNumber resting places last) number-permitted .0) p e
 

@@ -45,7 +45,7 @@ signals-update κs handed answer other lasts others p q = (updating-apart answer
 
 -- ---- signals_in_place
 
-pub signals-in-place-update : Asserted.OneAnswer signals-in-place.update.ended (λ M 𝓤. signals-in-place.update.clauses 𝓤)
+pub signals-in-place-update : Asserted.OneAnswerLent signals-in-place.update.ended (λ M 𝓤. signals-in-place.update.clauses 𝓤)
 signals-in-place-update = demand1 .train-lent .defined
 
 pub signals-in-place-lend-and-update : OneAnswer signals-in-place.lend_and_update.ended signals-in-place.lend_and_update.Reads.Learnt

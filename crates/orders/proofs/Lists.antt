@@ -7,9 +7,9 @@ use lib.Dec.{ltb}
 use lib.ListN.{length}
 use native.Mathlib.Omega.{arith}
 use borrow.Author.Tests.{eqb-true, eqb-false, ltb-true, ltb-false, not-false}
-use Rattle.kit.specs.Ladder.{Silent}
+use Rattle.kit.specs.Ladder.{NoneHolds}
 use Rattle.kit.proofs.Cases.{on, given, and-second}
-use Rattle.condition.specs.Slots.{codedOf, slots}
+use Rattle.condition.specs.Slots.{codedOf, slotCount}
 use Rattle.kit.proofs.Ladder.{silent-each}
 use Rattle.kinds.specs.Words.{isType, secondAllowed}
 use Rattle.order_list.specs.Lists.{orderAt, orderCount, listedAt}
@@ -22,7 +22,7 @@ use Rattle.orders.proofs.Rows.{list-accepted}
 -- R-01 to R-08 of a list that is not refused
 pub record Fair (places : List Place) (list : List ℕ) : Type 0 where
   pub whole : length list % 10 ≡ 0
-  pub short : orderCount list ≤ slots
+  pub short : orderCount list ≤ slotCount
   pub named : (j : ℕ) → j < orderCount list → 1 ≤ orderAt list j .number
   pub typed : (j : ℕ) → j < orderCount list → isType (orderAt list j .kind) ≡ true
   pub plain : (j : ℕ) → j < orderCount list → orderAt list j .spare ≡ 0
@@ -31,11 +31,11 @@ pub record Fair (places : List Place) (list : List ℕ) : Type 0 where
   pub same-type : (j : ℕ) → j < orderCount list → isRetyped places (orderAt list j) ≡ false
 
 module _ (places : List Place) (list : List ℕ) where
-  silent-length : Silent (listRows places list) → (length list % 10 ≡ 0) × (length list ≤ 200)
+  silent-length : NoneHolds (listRows places list) → (length list % 10 ≡ 0) × (length list ≤ 200)
   unfolding listRows
   silent-length s = (eqb-true _ 0 (not-false _ (s .0)), ltb-false 200 (length list) (s .1 .0))
 
-  silent-order : Silent (listRows places list) → (j : ℕ) → j < orderCount list → Silent (orderRows places list j)
+  silent-order : NoneHolds (listRows places list) → (j : ℕ) → j < orderCount list → NoneHolds (orderRows places list j)
   unfolding listRows
   silent-order s j p = silent-each (orderRows places list) 0 (orderCount list) (s .1 .1) j (omega arith) (omega arith)
 

@@ -4,7 +4,7 @@ use mathlib.Core.Path.{_≡_}
 use mathlib.Core.Logic.{_↔_}
 use mathlib.Core.List.{List}
 use native.Mathlib.Omega.{arith}
-use Rattle.kit.specs.Ladder.{Silent, Numbered}
+use Rattle.kit.specs.Ladder.{NoneHolds, Numbered}
 use Rattle.kit.proofs.Ladder.{numbered-each, passed-exactly}
 use Rattle.order_list.specs.Lists.{orderCount}
 use Rattle.orders.specs.Orders.{orderRows, listRows, listRefusal}
@@ -19,5 +19,5 @@ pub list-numbered : (places : List Place) (list : List ℕ) → Numbered (listRo
 unfolding listRows
 list-numbered places list = (omega arith, (omega arith, numbered-each (orderRows places list) (order-numbered places list) 0 (orderCount list)))
 
-pub list-accepted : (places : List Place) (list : List ℕ) → (listRefusal places list ≡ 0) ↔ Silent (listRows places list)
+pub list-accepted : (places : List Place) (list : List ℕ) → (listRefusal places list ≡ 0) ↔ NoneHolds (listRows places list)
 list-accepted places list = passed-exactly (listRows places list) (list-numbered places list)

@@ -1,5 +1,5 @@
 -- The refusals of a list of orders: document 01, "Refusal numbers", rows 1 to 8.
-use Rattle.condition.specs.Slots.{codedOf, slots}
+use Rattle.condition.specs.Slots.{codedOf, slotCount}
 use Prim.Native.Nat.{ℕ, _%_}
 use mathlib.Core.Path.{_≡_}
 use mathlib.Core.Bool.{Bool, not, _&&_}
@@ -20,7 +20,7 @@ typesOf places = map (λ (place : Place). codedOf (place .slot) .kind) places
 
 -- what is said of any twenty places whose orders and types these are
 abbrev pub OfPlaces : List ℕ → List ℕ → (List Place → Type 0) → Type 0
-OfPlaces live types says = (places : List Place) → length places ≡ slots → live ≡ ordersOf places → types ≡ typesOf places → says places
+OfPlaces live types says = (places : List Place) → length places ≡ slotCount → live ≡ ordersOf places → types ≡ typesOf places → says places
 
 -- R-08: live order with another type
 unfoldable pub isRetyped : List Place → Order → Bool

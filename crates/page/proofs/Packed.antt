@@ -15,7 +15,7 @@ use Rattle.kit.proofs.Cases.{on}
 use Rattle.text.specs.Decimals.{digit, decimal}
 use Rattle.text.specs.Hexadecimals.{hexDigit, hexadecimal}
 use Rattle.text.proofs.Numerals.{decimal-one, decimal-more, decimal-byte}
-use Rattle.page.specs.Packed.{Small, none, one, lowBytes, made, digitsBefore}
+use Rattle.page.specs.Packed.{Small, noneSmall, one, lowBytes, numberMade, digitsBefore}
 
 -- ---- the lowest bytes of a number
 
@@ -45,34 +45,34 @@ eight-low x =
 -- ---- a number made of bytes, the first one lowest
 
 pub small-append : {a b : List ℕ} → Small a → Small b → Small (a ++ b)
-small-append none q = q
+small-append noneSmall q = q
 small-append (one p r) q = one p (small-append r q)
 
 -- its lowest bytes are the first ones
-low-made : (k : ℕ) {l : List ℕ} → Small l → k ≤ length l → lowBytes k (made l) ≡ take k l
-unfolding lowBytes made
+low-made : (k : ℕ) {l : List ℕ} → Small l → k ≤ length l → lowBytes k (numberMade l) ≡ take k l
+unfolding lowBytes numberMade
 low-made zero s p = refl
-low-made (suc k) none p = absurd (omega arith)
+low-made (suc k) noneSmall p = absurd (omega arith)
 low-made (suc k) (one {byte} {more} small s) p =
-    let low : (byte + made more * 256) % 256 ≡ byte = omega arith in
-    let high : (byte + made more * 256) / 256 ≡ made more = omega arith in
+    let low : (byte + numberMade more * 256) % 256 ≡ byte = omega arith in
+    let high : (byte + numberMade more * 256) / 256 ≡ numberMade more = omega arith in
     rw (low, high) (ap (λ l. byte ∷ l) (low-made k s (omega arith)))
 
 -- a shift by 8 j drops the first j
-shift-made : (j : ℕ) {l : List ℕ} → Small l → j ≤ length l → made l / 2 ^ (8 * j) ≡ made (drop j l)
-unfolding made
+shift-made : (j : ℕ) {l : List ℕ} → Small l → j ≤ length l → numberMade l / 2 ^ (8 * j) ≡ numberMade (drop j l)
+unfolding numberMade
 shift-made zero s p = omega arith
-shift-made (suc j) none p = absurd (omega arith)
+shift-made (suc j) noneSmall p = absurd (omega arith)
 shift-made (suc j) (one {byte} {more} small s) p =
-    let high : (byte + made more * 256) / 256 ≡ made more = omega arith in
+    let high : (byte + numberMade more * 256) / 256 ≡ numberMade more = omega arith in
     let eight : 8 * suc j ≡ 8 + 8 * j = omega arith in
     let wide : 2 ^ (8 * suc j) ≡ 256 * 2 ^ (8 * j) = ap (λ e. 2 ^ e) eight ∙ pow-add 2 8 (8 * j) in
-    ap (λ d. (byte + made more * 256) / d) wide
-    ∙ (sym (div-div-eq-div-mul (byte + made more * 256) 256 (2 ^ (8 * j))) ∙ (ap (λ x. x / 2 ^ (8 * j)) high ∙ shift-made j s (omega arith)))
+    ap (λ d. (byte + numberMade more * 256) / d) wide
+    ∙ (sym (div-div-eq-div-mul (byte + numberMade more * 256) 256 (2 ^ (8 * j))) ∙ (ap (λ x. x / 2 ^ (8 * j)) high ∙ shift-made j s (omega arith)))
 
 small-drop : (j : ℕ) {l : List ℕ} → Small l → Small (drop j l)
 small-drop zero s = s
-small-drop (suc j) none = none
+small-drop (suc j) noneSmall = noneSmall
 small-drop (suc j) (one p s) = small-drop j s
 
 -- ---- the last so many digits of a number
@@ -88,8 +88,8 @@ last-length (suc k) n = omega (arith, length-append (lastDigits k (n / 10)) (dig
 
 last-small : (k n : ℕ) → Small (lastDigits k n)
 unfolding lastDigits
-last-small zero n = none
-last-small (suc k) n = small-append (last-small k (n / 10)) (one (omega arith) none)
+last-small zero n = noneSmall
+last-small (suc k) n = small-append (last-small k (n / 10)) (one (omega arith) noneSmall)
 
 -- the last k of the last k + j
 last-drop : (j k m n : ℕ) → m ≡ j + k → drop j (lastDigits m n) ≡ lastDigits k n
@@ -120,15 +120,15 @@ module _ (most d n after : ℕ) (rest : List ℕ) (fits : d ≤ most) (below : n
       ∙ ap (λ l. l ++ (after ∷ rest)) (last-drop (most - d) (suc d) (suc most) n (omega arith))
 
   -- what the shift leaves
-  pub packed-piece : made (digits-then (suc most)) / 2 ^ (8 * (most - d)) ≡ made (decimal n ++ (after ∷ rest))
+  pub packed-piece : numberMade (digits-then (suc most)) / 2 ^ (8 * (most - d)) ≡ numberMade (decimal n ++ (after ∷ rest))
   packed-piece =
       let all : Small (digits-then (suc most)) = small-append (last-small (suc most) n) (one byte small) in
       let long : length (digits-then (suc most)) ≡ suc most + suc (length rest) =
       length-append (lastDigits (suc most) n) (after ∷ rest) ∙ ap (λ k. k + suc (length rest)) (last-length (suc most) n) in
-      shift-made (most - d) all (omega arith) ∙ ap made (dropped ∙ ap (λ l. l ++ (after ∷ rest)) (sym (decimal-last d n below above)))
+      shift-made (most - d) all (omega arith) ∙ ap numberMade (dropped ∙ ap (λ l. l ++ (after ∷ rest)) (sym (decimal-last d n below above)))
 
   -- its lowest bytes are the decimal, and as many as are kept of what stands after it
-  pub packed-shown : (kept : ℕ) → kept ≤ suc (length rest) → decimal n ++ take kept (after ∷ rest) ≡ lowBytes (d + 1 + kept) (made (decimal n ++ (after ∷ rest)))
+  pub packed-shown : (kept : ℕ) → kept ≤ suc (length rest) → decimal n ++ take kept (after ∷ rest) ≡ lowBytes (d + 1 + kept) (numberMade (decimal n ++ (after ∷ rest)))
   packed-shown kept few =
       let same : decimal n ≡ lastDigits (suc d) n = decimal-last d n below above in
       let all : Small (decimal n ++ (after ∷ rest)) = small-append (subst Small (sym same) (last-small (suc d) n)) (one byte small) in
@@ -216,8 +216,8 @@ most-if false d p = omega arith
 
 -- ---- what the code packs
 
-digits-made : (a b c d e f : ℕ) → (48 + a) + (b + c * 0x100 + d * 0x10000 + e * 0x1000000 + 0x30303030) * 0x100 + f * 0x10000000000 + 0x3030000000000000 ≡ made ((48 + a) ∷ (48 + b) ∷ (48 + c) ∷ (48 + d) ∷ (48 + e) ∷ f ∷ 48 ∷ 48 ∷ [])
-unfolding made
+digits-made : (a b c d e f : ℕ) → (48 + a) + (b + c * 0x100 + d * 0x10000 + e * 0x1000000 + 0x30303030) * 0x100 + f * 0x10000000000 + 0x3030000000000000 ≡ numberMade ((48 + a) ∷ (48 + b) ∷ (48 + c) ∷ (48 + d) ∷ (48 + e) ∷ f ∷ 48 ∷ 48 ∷ [])
+unfolding numberMade
 digits-made a b c d e f = omega arith
 
 -- the last four digits of a number, as bytes of a number
@@ -225,8 +225,8 @@ abbrev fourDigits : ℕ → ℕ
 fourDigits n = n / 1000 % 10 + n / 100 % 10 * 0x100 + n / 10 % 10 * 0x10000 + n % 10 * 0x1000000
 
 five : (n after : ℕ) → n < 100000
-    → (48 + n / 10000) + (fourDigits n + 0x30303030) * 0x100 + after * 0x10000000000 + 0x3030000000000000 ≡ made (lastDigits 5 n ++ (after ∷ 48 ∷ 48 ∷ []))
-unfolding made lastDigits
+    → (48 + n / 10000) + (fourDigits n + 0x30303030) * 0x100 + after * 0x10000000000 + 0x3030000000000000 ≡ numberMade (lastDigits 5 n ++ (after ∷ 48 ∷ 48 ∷ []))
+unfolding numberMade lastDigits
 five n after p =
     let first : n / 10000 ≡ n / 10 / 10 / 10 / 10 % 10 = omega arith in
     let second : n / 1000 ≡ n / 10 / 10 / 10 = omega arith in
@@ -240,17 +240,17 @@ counted-as-told : {n d : ℕ} → n < 100000 → d ≡ digitsBefore n → Counte
 counted-as-told {n} p e = subst (λ k. Counted k n) (sym e) (counted n p)
 
 two-fill : Small (48 ∷ 48 ∷ [])
-two-fill = one {byte = 48} (omega arith) (one {byte = 48} (omega arith) none)
+two-fill = one {byte = 48} (omega arith) (one {byte = 48} (omega arith) noneSmall)
 
 module _ (n after d : ℕ) (p : n < 65536) (q : after < 256) (e : d ≡ digitsBefore n) where
   pub five-piece : (four : ℕ) → four ≡ fourDigits n
-      → ((48 + n / 10000) + (four + 0x30303030) * 0x100 + after * 0x10000000000 + 0x3030000000000000) / 2 ^ (8 * (4 - d)) ≡ made (decimal n ++ (after ∷ 48 ∷ 48 ∷ []))
+      → ((48 + n / 10000) + (four + 0x30303030) * 0x100 + after * 0x10000000000 + 0x3030000000000000) / 2 ^ (8 * (4 - d)) ≡ numberMade (decimal n ++ (after ∷ 48 ∷ 48 ∷ []))
   five-piece four f =
       let own : Counted d n = counted-as-told (omega arith) e in
       ap (λ x. x / 2 ^ (8 * (4 - d))) (ap (λ x. (48 + n / 10000) + (x + 0x30303030) * 0x100 + after * 0x10000000000 + 0x3030000000000000) f ∙ five n after (omega arith))
       ∙ packed-piece 4 d n after (48 ∷ 48 ∷ []) (omega (arith, before-most n)) (own .below) (own .above) q two-fill
 
-  pub five-shown : (wanted : Bool) → decimal n ++ cond wanted (after ∷ []) [] ≡ lowBytes (d + 1 + boolByte wanted) (made (decimal n ++ (after ∷ 48 ∷ 48 ∷ [])))
+  pub five-shown : (wanted : Bool) → decimal n ++ cond wanted (after ∷ []) [] ≡ lowBytes (d + 1 + boolByte wanted) (numberMade (decimal n ++ (after ∷ 48 ∷ 48 ∷ [])))
   five-shown wanted =
       let own : Counted d n = counted-as-told (omega arith) e in
       ap (λ l. decimal n ++ l) (sym (kept-if wanted after (48 ∷ 48 ∷ [])))
@@ -259,11 +259,11 @@ module _ (n after d : ℕ) (p : n < 65536) (q : after < 256) (e : d ≡ digitsBe
 -- ---- one digit and the byte after it
 
 module _ (n after : ℕ) (p : n < 10) where
-  pub one-piece : made (decimal n ++ (after ∷ 48 ∷ 48 ∷ [])) ≡ (48 + n) + after * 0x100 + 0x30300000
-  unfolding made
-  one-piece = ap (λ digits. made (digits ++ (after ∷ 48 ∷ 48 ∷ []))) (decimal-one n p) ∙ omega arith
+  pub one-piece : numberMade (decimal n ++ (after ∷ 48 ∷ 48 ∷ [])) ≡ (48 + n) + after * 0x100 + 0x30300000
+  unfolding numberMade
+  one-piece = ap (λ digits. numberMade (digits ++ (after ∷ 48 ∷ 48 ∷ []))) (decimal-one n p) ∙ omega arith
 
-  pub one-shown : after < 256 → decimal n ++ (after ∷ []) ≡ lowBytes 2 (made (decimal n ++ (after ∷ 48 ∷ 48 ∷ [])))
+  pub one-shown : after < 256 → decimal n ++ (after ∷ []) ≡ lowBytes 2 (numberMade (decimal n ++ (after ∷ 48 ∷ 48 ∷ [])))
   one-shown q = five-shown n after 0 (omega arith) q (sym (before-0 n p)) true
 
 -- a byte has at most three digits
@@ -273,11 +273,11 @@ byte-then n after p = omega (arith, length-append (decimal n) (after ∷ []), de
 -- ---- the bytes of a text, packed from the last one on
 
 -- bytes make a number of so many bytes
-pub made-below : (k : ℕ) {l : List ℕ} → Small l → length l ≤ k → made l < 256 ^ k
-unfolding made
-made-below zero none p = omega arith
+pub made-below : (k : ℕ) {l : List ℕ} → Small l → length l ≤ k → numberMade l < 256 ^ k
+unfolding numberMade
+made-below zero noneSmall p = omega arith
 made-below zero (one small s) p = absurd (omega arith)
-made-below (suc k) none p = omega (arith, pow-suc 256 k, made-below k none (omega arith))
+made-below (suc k) noneSmall p = omega (arith, pow-suc 256 k, made-below k noneSmall (omega arith))
 made-below (suc k) (one {byte} {more} small s) p = omega (arith, pow-suc 256 k, made-below k s (omega arith))
 
 module _ (words : List ℕ) (from : ℕ) where
@@ -302,21 +302,21 @@ module _ (words : List ℕ) (from : ℕ) where
         (getD-take 8 (drop from words) (i - 1 - from) 0 (omega arith) ∙ (getD-drop from words (i - 1 - from) 0 ∙ ap (λ n. getD words n 0) place)))
 
     -- one more byte
-    pub packed-more : {piece : ℕ} → piece ≡ made (drop (i - from) body) → piece * 256 + getD words (i - 1) 0 ≡ made (drop (i - 1 - from) body)
-    unfolding made
+    pub packed-more : {piece : ℕ} → piece ≡ numberMade (drop (i - from) body) → piece * 256 + getD words (i - 1) 0 ≡ numberMade (drop (i - 1 - from) body)
+    unfolding numberMade
     packed-more {piece} e =
         ap (λ n. n * 256 + getD words (i - 1) 0) e
-        ∙ (add-comm (made (drop (i - from) body) * 256) (getD words (i - 1) 0) ∙ sym (ap made body-at))
+        ∙ (add-comm (numberMade (drop (i - from) body) * 256) (getD words (i - 1) 0) ∙ sym (ap numberMade body-at))
 
     pub small-more : Small (drop (i - from) body) → getD words (i - 1) 0 < 256 → Small (drop (i - 1 - from) body)
     small-more s p = subst Small (sym body-at) (one p s)
 
     -- it has room
-    pub packed-fits : Small (drop (i - from) body) → made (drop (i - from) body) < 0x100000000000000
+    pub packed-fits : Small (drop (i - from) body) → numberMade (drop (i - from) body) < 0x100000000000000
     packed-fits s = made-below 7 s (omega (arith, body-long, length-drop (i - from) body))
 
 -- the first bytes of a text are shown by what is packed of it
-pub packed-first : (words : List ℕ) → Small (take 8 words) → take 8 words ≡ lowBytes (min (length words) 8) (made (take 8 words))
+pub packed-first : (words : List ℕ) → Small (take 8 words) → take 8 words ≡ lowBytes (min (length words) 8) (numberMade (take 8 words))
 packed-first words s =
     let long : length (take 8 words) ≡ min 8 (length words) = length-take 8 words in
     sym (low-made (min (length words) 8) s (omega arith) ∙ take-all (min (length words) 8) (take 8 words) (omega arith))

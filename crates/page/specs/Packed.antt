@@ -10,13 +10,13 @@ lowBytes zero piece = []
 lowBytes (suc count) piece = piece % 256 ∷ lowBytes count (piece / 256)
 
 -- the number made of bytes, the first one lowest
-unfoldable pub made : List ℕ → ℕ
-made [] = 0
-made (byte ∷ more) = byte + made more * 256
+unfoldable pub numberMade : List ℕ → ℕ
+numberMade [] = 0
+numberMade (byte ∷ more) = byte + numberMade more * 256
 
 -- numbers that are bytes
 pub data Small : List ℕ → Type 0 where
-  none : Small []
+  noneSmall : Small []
   one : {byte : ℕ} {more : List ℕ} → byte < 256 → Small more → Small (byte ∷ more)
 
 -- how many digits stand before the last one, of a number below 100,000

@@ -10,9 +10,9 @@ ghost use lib.Seq.{sets};
 ghost use Prim.Native.Nat.{_+_, _*_, _/_, _%_, _<_, _≤_, min};
 ghost use Rattle.text.specs.Decimals.{decimal};
 ghost use Rattle.text.specs.Hexadecimals.{hexDigit, hexadecimal};
-ghost use Rattle.page.specs.Words.{wordBytes, wordOf};
+ghost use Rattle.page.specs.Words.{bytesOfWord, packedWord};
 ghost use Rattle.page.specs.Pages.{Laid};
-ghost use Rattle.page.specs.Packed.{Small, lowBytes, made, digitsBefore};
+ghost use Rattle.page.specs.Packed.{Small, lowBytes, numberMade, digitsBefore};
 
 // Whether so many bytes have room from `at` on.
 fn has_room(size: usize, at: usize, width: usize) -> bool
@@ -90,7 +90,7 @@ fn last_four(n: u64) -> u64
 
 // A number in decimal, and a byte after it where it is wanted.
 fn put_digits(page: &mut [u8], at: usize, number: u16, after: u8, wanted: bool) -> usize
-    ensures { λ r. ⌜ Laid 8 (cond wanted 6 5) (now (page .entry)) at (decimal number ++ cond wanted (after ∷ []) []) (lowBytes 8 (made (decimal number ++ (after ∷ 48 ∷ 48 ∷ [])))) (now (page .exit)) r ⌝ }
+    ensures { λ r. ⌜ Laid 8 (cond wanted 6 5) (now (page .entry)) at (decimal number ++ cond wanted (after ∷ []) []) (lowBytes 8 (numberMade (decimal number ++ (after ∷ 48 ∷ 48 ∷ [])))) (now (page .exit)) r ⌝ }
 {
     let n = number as u64;
     let eight = (48 + n / 10000)
@@ -108,14 +108,14 @@ fn put_digits(page: &mut [u8], at: usize, number: u16, after: u8, wanted: bool) 
 
 // A number in decimal, and a byte after it.
 pub fn put_number(page: &mut [u8], at: usize, number: u16, after: u8) -> usize
-    ensures { λ r. ⌜ Laid 8 6 (now (page .entry)) at (decimal number ++ (after ∷ [])) (lowBytes 8 (made (decimal number ++ (after ∷ 48 ∷ 48 ∷ [])))) (now (page .exit)) r ⌝ }
+    ensures { λ r. ⌜ Laid 8 6 (now (page .entry)) at (decimal number ++ (after ∷ [])) (lowBytes 8 (numberMade (decimal number ++ (after ∷ 48 ∷ 48 ∷ [])))) (now (page .exit)) r ⌝ }
 {
     put_digits(page, at, number, after, true)
 }
 
 // The same of a number that has most often one digit: that case is quicker here, and every other one slower.
 pub fn put_short_number(page: &mut [u8], at: usize, number: u8, after: u8) -> usize
-    ensures { λ r. ⌜ Laid 8 4 (now (page .entry)) at (decimal number ++ (after ∷ [])) (lowBytes 8 (made (decimal number ++ (after ∷ 48 ∷ 48 ∷ [])))) (now (page .exit)) r ⌝ }
+    ensures { λ r. ⌜ Laid 8 4 (now (page .entry)) at (decimal number ++ (after ∷ [])) (lowBytes 8 (numberMade (decimal number ++ (after ∷ 48 ∷ 48 ∷ [])))) (now (page .exit)) r ⌝ }
 {
     if number < 10 {
         return put_piece(
@@ -130,7 +130,7 @@ pub fn put_short_number(page: &mut [u8], at: usize, number: u8, after: u8) -> us
 
 // A number in decimal, and nothing after it.
 pub fn put_bare_number(page: &mut [u8], at: usize, number: u16) -> usize
-    ensures { λ r. ⌜ Laid 8 5 (now (page .entry)) at (decimal number) (lowBytes 8 (made (decimal number ++ (48 ∷ 48 ∷ 48 ∷ [])))) (now (page .exit)) r ⌝ }
+    ensures { λ r. ⌜ Laid 8 5 (now (page .entry)) at (decimal number) (lowBytes 8 (numberMade (decimal number ++ (48 ∷ 48 ∷ 48 ∷ [])))) (now (page .exit)) r ⌝ }
 {
     put_digits(page, at, number, 48, false)
 }
@@ -147,7 +147,7 @@ fn at_most(count: usize, most: usize) -> usize
 // Eight bytes of a text from `from` on, or as many as it has, as a number, the first one lowest.
 fn piece_of(words: &[u8], from: usize) -> u64
     requires { ⌜ from ≤ 8 ⌝ }
-    ensures { λ r. ⌜ (r ≡ made (take 8 (drop from (now (words .entry))))) × Small (take 8 (drop from (now (words .entry)))) ⌝ }
+    ensures { λ r. ⌜ (r ≡ numberMade (take 8 (drop from (now (words .entry))))) × Small (take 8 (drop from (now (words .entry)))) ⌝ }
 {
     let mut piece: u64 = 0;
     let mut i = at_most(words.len(), from + 8);
@@ -160,7 +160,7 @@ fn piece_of(words: &[u8], from: usize) -> u64
 
 // The first eight bytes of a text.
 pub fn put_short_text(page: &mut [u8], at: usize, words: &[u8]) -> usize
-    ensures { λ r. ⌜ Laid 8 8 (now (page .entry)) at (take 8 (now (words .entry))) (lowBytes 8 (made (take 8 (now (words .entry))))) (now (page .exit)) r ⌝ }
+    ensures { λ r. ⌜ Laid 8 8 (now (page .entry)) at (take 8 (now (words .entry))) (lowBytes 8 (numberMade (take 8 (now (words .entry))))) (now (page .exit)) r ⌝ }
 {
     put_piece(page, at, piece_of(words, 0), at_most(words.len(), 8))
 }
@@ -174,7 +174,7 @@ pub struct Word {
 
 // The first sixteen bytes of a text.
 pub fn word_of(words: &[u8]) -> Word
-    ensures { λ r. ⌜ r ≡ wordOf (now (words .entry)) ⌝ }
+    ensures { λ r. ⌜ r ≡ packedWord (now (words .entry)) ⌝ }
 {
     let low = piece_of(words, 0);
     let high = piece_of(words, 8);
@@ -186,7 +186,7 @@ pub fn word_of(words: &[u8]) -> Word
 }
 
 pub fn put_word(page: &mut [u8], at: usize, word: Word) -> usize
-    ensures { λ r. ⌜ Laid 16 16 (now (page .entry)) at (wordBytes word) (lowBytes 8 (word .low) ++ lowBytes 8 (word .high)) (now (page .exit)) r ⌝ }
+    ensures { λ r. ⌜ Laid 16 16 (now (page .entry)) at (bytesOfWord word) (lowBytes 8 (word .low) ++ lowBytes 8 (word .high)) (now (page .exit)) r ⌝ }
 {
     if has_room(page.len(), at, 16) {
         put_eight(page, at, word.low);

@@ -8,10 +8,10 @@ use native.Mathlib.Omega.{arith}
 use borrow.Author.Tests.{eqb-true}
 use Rattle.kit.proofs.Cases.{on, given, and-both}
 use Rattle.kit.proofs.Loops.{scan-none}
-use Rattle.condition.specs.Slots.{isOccupied, slots}
+use Rattle.condition.specs.Slots.{isOccupied, slotCount}
 use Rattle.condition.specs.declared.slots.Slot.{Slot}
 use Rattle.telegram.specs.Tables.{tableSlot}
-use Rattle.picture.specs.Pictures.{hasNumber, isTwice, clashes}
+use Rattle.picture.specs.Pictures.{bearsNumber, isTwice, clashes}
 
 -- no two occupied slots have the same number
 abbrev pub Apart : List Slot → Type 0
@@ -21,9 +21,9 @@ Apart table =
 
 -- then nothing clashes
 pub no-clash : (table : List Slot) → Apart table → clashes table ≡ false
-unfolding clashes isTwice hasNumber
+unfolding clashes isTwice bearsNumber
 no-clash table apart =
-    scan-none _ _ false 0 slots
+    scan-none _ _ false 0 slotCount
     (λ i low below.
     on (isOccupied (tableSlot table i))
     (λ e.

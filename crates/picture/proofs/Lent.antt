@@ -8,15 +8,15 @@ use lib.ListN.{length, getD, set, replicate, length-set, length-replicate}
 use lib.Seq.{getD-set-same, getD-set-other}
 use native.Mathlib.Omega.{arith}
 use borrow.Author.Tests.{eqb-true, eqb-false}
-use Rattle.kit.specs.Loops.{scan, any, count}
+use Rattle.kit.specs.Loops.{scan, any, howMany}
 use Rattle.kit.proofs.Cases.{on}
 use Rattle.kit.proofs.Loops.{count-same, any-same, any-more}
 use Rattle.kit.proofs.Maps.{replicate-at}
-use Rattle.condition.specs.Slots.{isOccupied, slots}
+use Rattle.condition.specs.Slots.{isOccupied, slotCount}
 use Rattle.telegram.specs.Tables.{tableSlot}
 use Rattle.memory.specs.Memory.{setFrom, slotPlace, isSet, setIn}
 use Rattle.memory.proofs.Slots.{slot-in, slot-number, slot-occupied}
-use Rattle.picture.specs.Pictures.{countOf, hasNumber, isTwice}
+use Rattle.picture.specs.Pictures.{countOf, bearsNumber, isTwice}
 
 -- the number of slot i of the set, and whether the slot is occupied
 abbrev pub numberAt : List ℕ → ℕ → ℕ
@@ -25,7 +25,7 @@ numberAt memory i = getD memory (slotPlace setFrom i) 0
 abbrev pub holds : List ℕ → ℕ → Bool
 holds memory i = isSet (getD memory (slotPlace setFrom i + 1) 0)
 
-module _ (memory : List ℕ) (i : ℕ) (p : i < slots) where
+module _ (memory : List ℕ) (i : ℕ) (p : i < slotCount) where
   number-byte : tableSlot (setIn memory) i .number ≡ numberAt memory i
   number-byte = ap (λ slot. slot .number) (slot-in memory setFrom i p) ∙ slot-number memory (slotPlace setFrom i)
 
@@ -34,9 +34,9 @@ module _ (memory : List ℕ) (i : ℕ) (p : i < slots) where
 
 -- ---- how many
 
-pub count-bytes : (memory : List ℕ) → countOf (setIn memory) ≡ count (holds memory) slots
+pub count-bytes : (memory : List ℕ) → countOf (setIn memory) ≡ howMany (holds memory) slotCount
 unfolding countOf
-count-bytes memory = count-same (λ i. isOccupied (tableSlot (setIn memory) i)) (holds memory) slots (occupied-byte memory)
+count-bytes memory = count-same (λ i. isOccupied (tableSlot (setIn memory) i)) (holds memory) slotCount (occupied-byte memory)
 
 -- ---- numbers twice
 
@@ -44,8 +44,8 @@ count-bytes memory = count-same (λ i. isOccupied (tableSlot (setIn memory) i)) 
 abbrev pub seenBy : List ℕ → ℕ → ℕ → Bool
 seenBy memory number j = holds memory j && eqb (numberAt memory j) number
 
-twice-seen : (memory : List ℕ) (i : ℕ) → i < slots → isTwice (setIn memory) i ≡ holds memory i && any (seenBy memory (numberAt memory i)) 0 i
-unfolding isTwice hasNumber
+twice-seen : (memory : List ℕ) (i : ℕ) → i < slotCount → isTwice (setIn memory) i ≡ holds memory i && any (seenBy memory (numberAt memory i)) 0 i
+unfolding isTwice bearsNumber
 twice-seen memory i p =
     ap₂ _&&_ (occupied-byte memory i p)
     (any-same
@@ -97,5 +97,5 @@ module _ (memory : List ℕ) (i : ℕ) (seen : List Bool) (small : numberAt memo
       }
 
   -- the flag of slot i's number says whether the number stands there for the second time
-  pub twice-flag : i < slots → isTwice (setIn memory) i ≡ holds memory i && getD seen (numberAt memory i) false
+  pub twice-flag : i < slotCount → isTwice (setIn memory) i ≡ holds memory i && getD seen (numberAt memory i) false
   twice-flag p = twice-seen memory i p ∙ ap (λ b. holds memory i && b) (sym (s .flag (numberAt memory i) small))

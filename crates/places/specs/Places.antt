@@ -5,7 +5,7 @@ use mathlib.Core.List.{List, map}
 use lib.Dec.{eqb, ltb}
 use lib.ListN.{getD}
 use Rattle.kit.specs.Loops.{find}
-use Rattle.condition.specs.Slots.{slots, emptySlot}
+use Rattle.condition.specs.Slots.{slotCount, emptySlot}
 use Rattle.places.specs.declared.Place.{Place}
 
 -- D-04: a place that no order has
@@ -22,7 +22,7 @@ ordersOf places = map (λ (place : Place). place .order) places
 
 -- A-01: the lowest place that an order has, or 20 where it has none
 unfoldable pub placeOf : List Place → ℕ → ℕ
-placeOf places order = find (λ i. eqb (placeAt places i .order) order) slots
+placeOf places order = find (λ i. eqb (placeAt places i .order) order) slotCount
 
 -- D-06, D-08: no order has this place
 abbrev pub isFree : Place → Bool
@@ -30,8 +30,8 @@ isFree place = eqb (place .order) 0
 
 -- D-08: the lowest free slot, or 20 where none is free
 abbrev pub lowestFree : List Place → ℕ
-lowestFree places = find (λ i. isFree (placeAt places i)) slots
+lowestFree places = find (λ i. isFree (placeAt places i)) slotCount
 
 -- A-01: an order is live: it has a place
 abbrev pub isLive : List Place → ℕ → Bool
-isLive places order = ltb (placeOf places order) slots
+isLive places order = ltb (placeOf places order) slotCount

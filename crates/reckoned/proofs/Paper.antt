@@ -17,19 +17,19 @@ use Rattle.orders.specs.Orders.{isRetyped, orderRows, listRows}
 use Rattle.resting.specs.Rests.{restsBy, isResting}
 use Rattle.numbers.specs.Numbers.{hasNumber, nextNumber}
 use Rattle.desk.specs.Desks.{freshWith, acceptOf, tableOf}
-use Rattle.leaving.specs.Leaving.{keptPlace, endedEntry, endedNumbers}
+use Rattle.leaving.specs.Leaving.{keptAmong, endedEntry, endedAmong}
 use Rattle.desk.specs.Steps.{stepOf}
 use Rattle.arriving.specs.Arriving.{seated, seatedAll}
 use Rattle.wire.specs.Verdicts.{verdictOf}
 use Rattle.train_codes.specs.Codes.{brakeOf}
 use Rattle.train_codes.specs.Refusals.{restSet, zeroBitSet, trainRows}
-use Rattle.train_telegram.specs.Readings.{readOf}
+use Rattle.train_telegram.specs.Readings.{trainReading}
 use Rattle.train_telegram.specs.States.{nationalOf, statesOf}
 use Rattle.signals.specs.Signals.{updateOf}
 use Rattle.reckoned.proofs.Sameness.{same, same-equal}
 use Rattle.reckoned.proofs.Walking.{runs-seen}
 use Rattle.reckoned.proofs.Wrap.{wrap-holds}
-use Rattle.reckoned.specs.Reckoned.{AllHold, words, wire, ordering, heldFirst, received, p7-telegram, supportedIn, showing, paper, short-rows, order, orders, wholly-new, empty, refusal, to-255, one-ended}
+use Rattle.reckoned.specs.Reckoned.{AllHold, twoWords, wireBytes, ordering, heldFirst, received, p7-telegram, supportedIn, showing, paper, short-rows, orderBytes, orderList, wholly-new, emptyLists, freshRefusal, to-255, one-ended}
 
 -- one row more
 infixr 20 _and_
@@ -42,7 +42,7 @@ numbers {defined} {written} = same-equal defined written
 
 -- the checker computes the rows, but for the runs of P4 and P5, which are computed in Walking.antt and Wrap.antt
 short-hold : AllHold short-rows
-unfolding same order orders wholly-new empty to-255 one-ended refusal each ladder scan fold bodyOf secondHeld isConsidered gapOf orderAt listedAt placeOf listRows restsBy isResting hasNumber nextNumber freshWith keptPlace endedEntry endedNumbers seated seatedAll stepOf received p7-telegram supportedIn showing updateOf readOf trainRows zeroBitSet restSet verdictOf statesOf nationalOf brakeOf words wire ordering heldFirst acceptOf tableOf Telegrams′.readOf readRows codedAt takenBefore telegramOf bytesOf slotRows codedOf sixOf secondAllowed isRetyped orderRows
+unfolding same orderBytes orderList wholly-new emptyLists to-255 one-ended freshRefusal each ladder scan fold bodyOf secondHeld isConsidered gapOf orderAt listedAt placeOf listRows restsBy isResting hasNumber nextNumber freshWith keptAmong endedEntry endedAmong seated seatedAll stepOf received p7-telegram supportedIn showing updateOf trainReading trainRows zeroBitSet restSet verdictOf statesOf nationalOf brakeOf twoWords wireBytes ordering heldFirst acceptOf tableOf Telegrams′.readOf readRows codedAt takenBefore telegramOf bytesOf slotRows codedOf sixOf secondAllowed isRetyped orderRows
 short-hold =
     -- P1
     numbers refl and refl and numbers refl and refl

@@ -20,14 +20,14 @@ use Rattle.places.specs.declared.Place.{Place}
 use Rattle.orders.specs.Orders.{orderRows, isRetyped, listRows}
 use Rattle.resting.specs.Rests.{restsBy, isResting}
 use Rattle.numbers.specs.Numbers.{hasNumber, nextNumber}
-use Rattle.leaving.specs.Leaving.{keptPlace, endedEntry, endedNumbers}
+use Rattle.leaving.specs.Leaving.{keptAmong, endedEntry, endedAmong}
 use Rattle.arriving.specs.Arriving.{seated, seatedAll}
-use Rattle.desk.specs.Desks.{rest, freshWith, acceptOf}
+use Rattle.desk.specs.Desks.{baseRest, freshWith, acceptOf}
 use Rattle.desk.specs.Steps.{stepOf}
 use Rattle.desk.specs.declared.Answer.{Answer}
 use Rattle.desk.specs.declared.Desk.{Desk}
 use Rattle.claims.specs.Calls.{deskAfter, accepted, stepsMade}
-use Rattle.reckoned.specs.Reckoned.{order, orders, wholly-new, one-stays, empty, stepAndNumbers, from, alone, to-255}
+use Rattle.reckoned.specs.Reckoned.{orderBytes, orderList, wholly-new, one-stays, emptyLists, stepAndNumbers, numbersFrom, alone, to-255}
 use Rattle.reckoned.proofs.Sameness.{same, same-equal}
 
 -- a desk and how many steps it has made
@@ -38,10 +38,10 @@ unfoldable pub counted : Answer → ℕ → Walked
 counted answer made = (answer .desk, cond (eqb (numberOf (answer .verdict)) 0) (suc made) made)
 
 abbrev pub onward : Walked → List ℕ → Walked
-onward (desk, made) list = counted (acceptOf rest desk list) made
+onward (desk, made) list = counted (acceptOf baseRest desk list) made
 
 unfoldable pub walked : List (List ℕ) → Walked
-walked [] = (freshWith rest, 0)
+walked [] = (freshWith baseRest, 0)
 walked (list ∷ calls) = onward (walked calls) list
 
 -- what is looked at, of a walk
@@ -52,17 +52,17 @@ length-cond : (test : Bool) (list : List ℕ) (lists : List (List ℕ)) → leng
 length-cond test list lists = on test (λ e. rw e refl) (λ e. rw e refl)
 
 -- the walk gives the desk after the calls and the count of the accepted ones
-pub walked-is : (calls : List (List ℕ)) → (deskAfter rest calls ≡ walked calls .0) × (stepsMade rest calls ≡ walked calls .1)
+pub walked-is : (calls : List (List ℕ)) → (deskAfter baseRest calls ≡ walked calls .0) × (stepsMade baseRest calls ≡ walked calls .1)
 unfolding deskAfter accepted walked counted
 walked-is [] = (refl, refl)
 walked-is (list ∷ calls) = go (walked-is calls)
   where
-    go : (deskAfter rest calls ≡ walked calls .0) × (stepsMade rest calls ≡ walked calls .1)
-        → (deskAfter rest (list ∷ calls) ≡ walked (list ∷ calls) .0) × (stepsMade rest (list ∷ calls) ≡ walked (list ∷ calls) .1)
+    go : (deskAfter baseRest calls ≡ walked calls .0) × (stepsMade baseRest calls ≡ walked calls .1)
+        → (deskAfter baseRest (list ∷ calls) ≡ walked (list ∷ calls) .0) × (stepsMade baseRest (list ∷ calls) ≡ walked (list ∷ calls) .1)
     go (desk, made) = (
-      ap (λ d. acceptOf rest d list .desk) desk,
-      length-cond (eqb (numberOf (acceptOf rest (deskAfter rest calls) list .verdict)) 0) list (accepted rest calls)
-          ∙ ap₂ (λ d (m : ℕ). cond (eqb (numberOf (acceptOf rest d list .verdict)) 0) (suc m) m) desk made,
+      ap (λ d. acceptOf baseRest d list .desk) desk,
+      length-cond (eqb (numberOf (acceptOf baseRest (deskAfter baseRest calls) list .verdict)) 0) list (accepted baseRest calls)
+          ∙ ap₂ (λ d (m : ℕ). cond (eqb (numberOf (acceptOf baseRest d list .verdict)) 0) (suc m) m) desk made,
     )
 
 -- and more lists after those
@@ -102,17 +102,17 @@ by-walk ((lists, written) ∷ looks) calls e =
 
 -- P4: the steps 12 and 13, from one walk of twelve
 abbrev pub p4-looks : List Look
-p4-looks = ([], 12 ∷ from 20 221) ∷ (orders 20 241 ∷ [], 13 ∷ (from 15 241 ++ from 5 1)) ∷ []
+p4-looks = ([], 12 ∷ numbersFrom 20 221) ∷ (orderList 20 241 ∷ [], 13 ∷ (numbersFrom 15 241 ++ numbersFrom 5 1)) ∷ []
 
 -- P5: the steps 14, 15, 22 and 23, from one walk of fourteen
 abbrev pub p5-looks : List Look
 p5-looks =
-    ([], 14 ∷ 1 ∷ (from 7 249 ++ replicate 12 0))
+    ([], 14 ∷ 1 ∷ (numbersFrom 7 249 ++ replicate 12 0))
     ∷ ([] ∷ [], 15 ∷ replicate 20 0)
-    ∷ (orders 1 1000 ∷ (empty 6 ++ ([] ∷ [])), 22 ∷ alone 2)
-    ∷ (orders 1 1000 ∷ (empty 7 ++ ([] ∷ [])), 23 ∷ alone 1)
+    ∷ (orderList 1 1000 ∷ (emptyLists 6 ++ ([] ∷ [])), 22 ∷ alone 2)
+    ∷ (orderList 1 1000 ∷ (emptyLists 7 ++ ([] ∷ [])), 23 ∷ alone 1)
     ∷ []
 
 pub runs-seen : Seen p4-looks (wholly-new 12) × Seen p5-looks to-255
-unfolding seen onwards looked walked counted same order orders wholly-new one-stays empty from alone to-255 each ladder scan fold bodyOf secondHeld isConsidered secondAllowed gapOf orderAt listedAt placeOf restsBy isResting hasNumber nextNumber freshWith acceptOf verdictOf codedOf orderRows isRetyped listRows keptPlace endedEntry endedNumbers seated seatedAll stepOf
+unfolding seen onwards looked walked counted same orderBytes orderList wholly-new one-stays emptyLists numbersFrom alone to-255 each ladder scan fold bodyOf secondHeld isConsidered secondAllowed gapOf orderAt listedAt placeOf restsBy isResting hasNumber nextNumber freshWith acceptOf verdictOf codedOf orderRows isRetyped listRows keptAmong endedEntry endedAmong seated seatedAll stepOf
 runs-seen = (by-walk p4-looks (wholly-new 12) refl, by-walk p5-looks to-255 refl)

@@ -17,18 +17,18 @@ use Rattle.places.specs.Places.{freePlace, placeOf}
 use Rattle.places.specs.declared.Place.{Place}
 use Rattle.resting.specs.Rests.{noneEnded, restsBy, isResting}
 use Rattle.numbers.specs.Numbers.{hasNumber, nextNumber}
-use Rattle.desk.specs.Desks.{rest, freshWith, acceptOf}
+use Rattle.desk.specs.Desks.{baseRest, freshWith, acceptOf}
 use Rattle.claims.specs.Calls.{deskAfter, stepsMade}
 use Rattle.wire.specs.Verdicts.{verdictOf}
 use Rattle.wire.specs.declared.verdicts.Verdict.the-variants.{Accepted}
 use Rattle.claims.proofs.History.{accepted-more}
 use Rattle.orders.specs.Orders.{orderRows, isRetyped, listRows}
-use Rattle.leaving.specs.Leaving.{keptPlace, endedEntry, endedNumbers}
+use Rattle.leaving.specs.Leaving.{keptAmong, endedEntry, endedAmong}
 use Rattle.desk.specs.Steps.{stepOf}
 use Rattle.arriving.specs.Arriving.{seated, seatedAll}
 use Rattle.desk.specs.declared.Desk.{Desk}
 use Rattle.reckoned.proofs.Walking.{Walked, counted, walked, walked-is}
-use Rattle.reckoned.specs.Reckoned.{order, orders, wholly-new, empty, stepAndNumbers, alone, before-the-wrap}
+use Rattle.reckoned.specs.Reckoned.{orderBytes, orderList, wholly-new, emptyLists, stepAndNumbers, alone, before-the-wrap}
 
 -- a desk with no order and nothing at rest, the last number given 255
 abbrev quiet : ℕ → Desk
@@ -39,23 +39,23 @@ numbersOf desk = map (λ (p : Place). p .slot .number) (desk .places)
 
 -- what the checker computes: nine empty lists after the orders, one more at any step number, and the new order at any step number, each
 -- by the desk's own answer
-computed : (walked (empty 9 ++ before-the-wrap) ≡ (quiet 22, 22))
-    × ((step : ℕ) → acceptOf rest (quiet step) [] ≡ record { verdict = Accepted; desk = quiet ((step + 1) % steps) })
-    × ((step : ℕ) → acceptOf rest (quiet step) (orders 1 1000) ≡ record { verdict = Accepted; desk = stepOf rest (quiet step) (orders 1 1000) })
-    × ((step : ℕ) → numbersOf (stepOf rest (quiet step) (orders 1 1000)) ≡ alone 1)
-unfolding order orders wholly-new empty alone before-the-wrap each ladder scan fold bodyOf secondHeld isConsidered secondAllowed gapOf orderAt listedAt placeOf restsBy isResting hasNumber nextNumber freshWith walked counted acceptOf verdictOf codedOf orderRows isRetyped listRows keptPlace endedEntry endedNumbers seated seatedAll stepOf
+computed : (walked (emptyLists 9 ++ before-the-wrap) ≡ (quiet 22, 22))
+    × ((step : ℕ) → acceptOf baseRest (quiet step) [] ≡ record { verdict = Accepted; desk = quiet ((step + 1) % steps) })
+    × ((step : ℕ) → acceptOf baseRest (quiet step) (orderList 1 1000) ≡ record { verdict = Accepted; desk = stepOf baseRest (quiet step) (orderList 1 1000) })
+    × ((step : ℕ) → numbersOf (stepOf baseRest (quiet step) (orderList 1 1000)) ≡ alone 1)
+unfolding orderBytes orderList wholly-new emptyLists alone before-the-wrap each ladder scan fold bodyOf secondHeld isConsidered secondAllowed gapOf orderAt listedAt placeOf restsBy isResting hasNumber nextNumber freshWith walked counted acceptOf verdictOf codedOf orderRows isRetyped listRows keptAmong endedEntry endedAmong seated seatedAll stepOf
 computed = (refl, (λ step. refl), (λ step. refl), (λ step. refl))
 
 -- however many more empty lists
 abbrev more : ℕ → List (List ℕ)
-more k = replicate k [] ++ (empty 9 ++ before-the-wrap)
+more k = replicate k [] ++ (emptyLists 9 ++ before-the-wrap)
 
-still-quiet : (k : ℕ) → (step : ℕ) × (deskAfter rest (more k) ≡ quiet step) × (stepsMade rest (more k) ≡ k + 22)
+still-quiet : (k : ℕ) → (step : ℕ) × (deskAfter baseRest (more k) ≡ quiet step) × (stepsMade baseRest (more k) ≡ k + 22)
 still-quiet zero = (22, walked-is (more 0) .0 ∙ ap (λ (w : Walked). w .0) (computed .0), walked-is (more 0) .1 ∙ ap (λ (w : Walked). w .1) (computed .0))
 still-quiet (suc k) =
     given (still-quiet k)
     (λ (step, desk, made).
-    let next = accepted-more rest (more k) [] (quiet ((step + 1) % steps)) (ap (λ d. acceptOf rest d []) desk ∙ computed .1 step) in
+    let next = accepted-more baseRest (more k) [] (quiet ((step + 1) % steps)) (ap (λ d. acceptOf baseRest d []) desk ∙ computed .1 step) in
     ((step + 1) % steps, next .0, ap length (next .1) ∙ (ap suc made ∙ omega arith)))
 
 more-empty : (k : ℕ) (l : List (List ℕ)) → replicate (k + 9) [] ++ l ≡ replicate k [] ++ (replicate 9 [] ++ l)
@@ -64,11 +64,11 @@ more-empty (suc k) l =
     let e : suc k + 9 ≡ suc (k + 9) = omega arith in
     ap (λ (n : ℕ). replicate n [] ++ l) e ∙ ap (λ m. [] ∷ m) (more-empty k l)
 
-pub wrap-holds : stepAndNumbers (orders 1 1000 ∷ (empty 8183 ++ before-the-wrap)) ≡ 8197 ∷ alone 1
-unfolding stepAndNumbers empty
+pub wrap-holds : stepAndNumbers (orderList 1 1000 ∷ (emptyLists 8183 ++ before-the-wrap)) ≡ 8197 ∷ alone 1
+unfolding stepAndNumbers emptyLists
 wrap-holds =
     given (still-quiet 8174)
     (λ (step, desk, made).
-    let next = accepted-more rest (more 8174) (orders 1 1000) (stepOf rest (quiet step) (orders 1 1000)) (ap (λ d. acceptOf rest d (orders 1 1000)) desk ∙ computed .2 step) in
-    ap (λ lists. stepAndNumbers (orders 1 1000 ∷ lists)) (more-empty 8174 before-the-wrap)
+    let next = accepted-more baseRest (more 8174) (orderList 1 1000) (stepOf baseRest (quiet step) (orderList 1 1000)) (ap (λ d. acceptOf baseRest d (orderList 1 1000)) desk ∙ computed .2 step) in
+    ap (λ lists. stepAndNumbers (orderList 1 1000 ∷ lists)) (more-empty 8174 before-the-wrap)
     ∙ ap₂ (λ (k : ℕ) (l : List ℕ). k ∷ l) (ap length (next .1) ∙ ap suc made) (ap numbersOf (next .0) ∙ computed .3 step))

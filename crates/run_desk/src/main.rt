@@ -7,7 +7,7 @@ use libc::STDOUT_FILENO;
 use wire::Verdict;
 ghost use mathlib.Core.Path.{_≡_};
 ghost use lib.ListN.{length};
-ghost use Rattle.desk.specs.Desks.{rest, acceptOf, Made};
+ghost use Rattle.desk.specs.Desks.{baseRest, acceptOf, Made};
 
 // What standard input has next: its end, a list that the input ends inside of, or a list of so many bytes.
 enum Input {
@@ -61,7 +61,7 @@ fn read_list(bytes: &mut [u8]) -> Input
 // Hands one list to the desk and shows its answer.
 fn take(desk: Desk, list: &[u8], lists: u64) -> Desk
     requires { ⌜ Made desk ⌝ }
-    ensures { λ r. ⌜ r ≡ acceptOf rest desk (now (list .entry)) .desk ⌝ }
+    ensures { λ r. ⌜ r ≡ acceptOf baseRest desk (now (list .entry)) .desk ⌝ }
 {
     let answer = desk.accept(list);
     let verdict = answer.verdict;

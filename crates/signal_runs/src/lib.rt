@@ -4,7 +4,7 @@ use signals::Signals;
 ghost use mathlib.Core.Path.{_≡_};
 ghost use Rattle.kit.specs.Put.{Poured};
 ghost use Rattle.signals_output.specs.Lines.{lineOf};
-ghost use Rattle.signal_runs.specs.Runs.{updatedBy, linesOf};
+ghost use Rattle.signal_runs.specs.Runs.{updatedBy, signalLines};
 
 // The length of a call with no telegram.
 const NO_TELEGRAM: u16 = 0xFFFF;
@@ -32,7 +32,7 @@ fn tell(signals: Signals, length: u16, bytes: &[u8], lines: &mut [u8], at: usize
 // The lines of all calls, from a fresh record on, and `short call` where the input ends inside one; the answer is the place past them.
 // What has no room before the buffer's end is dropped.
 pub fn read(input: &[u8], lines: &mut [u8]) -> usize
-    ensures { λ r. ⌜ Poured (now (lines .entry)) 0 (linesOf (now (input .entry))) (now (lines .exit)) r ⌝ }
+    ensures { λ r. ⌜ Poured (now (lines .entry)) 0 (signalLines (now (input .entry))) (now (lines .exit)) r ⌝ }
 {
     let mut signals = Signals::fresh();
     let mut rest = input;

@@ -9,7 +9,7 @@ use native.Mathlib.Omega.{arith}
 use borrow.Author.Tests.{eqb-true, eqb-false, ltb-true, ltb-false, lt-ltb, le-ltb}
 use Rattle.kit.proofs.Cases.{on, clash}
 use Rattle.train_codes.specs.Refusals.{trainRefusal}
-use Rattle.train_telegram.specs.Readings.{readOf, Shows}
+use Rattle.train_telegram.specs.Readings.{trainReading, Shows}
 use Rattle.train_telegram.specs.States.{statesOf, silent}
 use Rattle.train_telegram.specs.declared.states.States.{States}
 use Rattle.train_telegram.specs.declared.Reading.{Reading}
@@ -30,8 +30,8 @@ miss-misses signals true telegram e =
     (λ z. absurd (clash e (rw z refl)))
     (λ z.
     let number : ℕ = trainRefusal telegram in
-    let r : readOf telegram .verdict ≡ _ = ap (λ (x : Reading). x .verdict) (read-refused telegram number refl (eqb-false number 0 z)) in
-    ap (λ (u : Updating). u .signals) (update-refused signals telegram (readOf telegram) refl number r))
+    let r : trainReading telegram .verdict ≡ _ = ap (λ (x : Reading). x .verdict) (read-refused telegram number refl (eqb-false number 0 z)) in
+    ap (λ (u : Updating). u .signals) (update-refused signals telegram (trainReading telegram) refl number r))
 
 hit-says : (signals : Signals) (present : Bool) (telegram : List ℕ) → isMiss (present, telegram) ≡ false → updateOf signals present telegram .signals ≡ signalsWith (statesOf telegram) 0
 hit-says signals false telegram e = absurd (clash refl e)
@@ -39,7 +39,7 @@ hit-says signals true telegram e =
     on (eqb (trainRefusal telegram) 0)
     (λ z.
     let r = read-accepted telegram (trainRefusal telegram) refl (eqb-true (trainRefusal telegram) 0 z) in
-    ap (λ (u : Updating). u .signals) (update-accepted signals telegram (readOf telegram) refl (ap (λ (x : Reading). x .verdict) r))
+    ap (λ (u : Updating). u .signals) (update-accepted signals telegram (trainReading telegram) refl (ap (λ (x : Reading). x .verdict) r))
     ∙ ap (λ (x : Reading). signalsWith (x .states) 0) r)
     (λ z. absurd (clash (rw z refl) e))
 

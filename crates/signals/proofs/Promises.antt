@@ -4,11 +4,11 @@ use mathlib.Core.Bool.{true, false}
 use mathlib.Core.List.{List, []}
 use mathlib.Core.Logic.{_↔_, inl}
 use mathlib.Core.Path.{_≡_, refl, sym, ap, _∙_, subst}
-use Rattle.kit.specs.Ladder.{Decides, Silent}
+use Rattle.kit.specs.Ladder.{Decides, NoneHolds}
 use Rattle.wire.specs.declared.verdicts.Verdict.{Verdict}
 use Rattle.wire.specs.declared.verdicts.Verdict.the-variants.{Accepted, Refused}
 use Rattle.train_codes.specs.Refusals.{trainRows}
-use Rattle.train_telegram.specs.Readings.{readOf, Shows}
+use Rattle.train_telegram.specs.Readings.{trainReading, Shows}
 use Rattle.train_telegram.specs.States.{statesOf}
 use Rattle.train_telegram.specs.declared.states.States.{States}
 use Rattle.train_telegram.proofs.Showing.{states-show}
@@ -24,36 +24,36 @@ module _ (signals : Signals) (telegram : List ℕ) where
   noted = updateOf signals true telegram .noted
 
   -- an answer tells the verdict of reading
-  told : (verdict : Verdict) → readOf telegram .verdict ≡ verdict → ((number : ℕ) → noted ≡ refusalUnder number → readOf telegram .verdict ≡ Refused number) × (noted ≡ acceptance → readOf telegram .verdict ≡ Accepted)
+  told : (verdict : Verdict) → trainReading telegram .verdict ≡ verdict → ((number : ℕ) → noted ≡ refusalUnder number → trainReading telegram .verdict ≡ Refused number) × (noted ≡ acceptance → trainReading telegram .verdict ≡ Accepted)
   told (Refused n) e =
-      let is : noted ≡ refusalUnder n = ap (λ (u : Updating). u .noted) (update-refused signals telegram (readOf telegram) refl n e) in
+      let is : noted ≡ refusalUnder n = ap (λ (u : Updating). u .noted) (update-refused signals telegram (trainReading telegram) refl n e) in
       (λ number a. e ∙ ap (λ (n : Noted). Refused (n .number)) (sym is ∙ a), λ a. absurd (acceptance-no-refusal n (sym a ∙ is)))
   told Accepted e =
-      let is : noted ≡ acceptance = ap (λ (u : Updating). u .noted) (update-accepted signals telegram (readOf telegram) refl e) in
+      let is : noted ≡ acceptance = ap (λ (u : Updating). u .noted) (update-accepted signals telegram (trainReading telegram) refl e) in
       (λ number a. absurd (acceptance-no-refusal number (sym is ∙ a)), λ a. e)
 
   -- R-22, R-23: a telegram is refused under the number of the first row that holds, and never else
   pub refused-exactly : (number : ℕ) → (noted ≡ refusalUnder number) ↔ Decides (trainRows telegram) number
   refused-exactly number = (
-    λ a. reading-refused telegram number .0 (told (readOf telegram .verdict) refl .0 number a),
-    λ d. ap (λ (u : Updating). u .noted) (update-refused signals telegram (readOf telegram) refl number (reading-refused telegram number .1 d)),
+    λ a. reading-refused telegram number .0 (told (trainReading telegram .verdict) refl .0 number a),
+    λ d. ap (λ (u : Updating). u .noted) (update-refused signals telegram (trainReading telegram) refl number (reading-refused telegram number .1 d)),
   )
 
-  pub accepted-exactly : (noted ≡ acceptance) ↔ Silent (trainRows telegram)
+  pub accepted-exactly : (noted ≡ acceptance) ↔ NoneHolds (trainRows telegram)
   accepted-exactly = (
-    λ a. reading-accepted telegram .0 (told (readOf telegram .verdict) refl .1 a),
-    λ s. ap (λ (u : Updating). u .noted) (update-accepted signals telegram (readOf telegram) refl (reading-accepted telegram .1 s)),
+    λ a. reading-accepted telegram .0 (told (trainReading telegram .verdict) refl .1 a),
+    λ s. ap (λ (u : Updating). u .noted) (update-accepted signals telegram (trainReading telegram) refl (reading-accepted telegram .1 s)),
   )
 
   -- M-1f, S-20: a refused telegram is a miss like any other, and changes nothing else
   pub refused-misses : (number : ℕ) → noted ≡ refusalUnder number → updateOf signals true telegram .signals ≡ missedBy signals
-  refused-misses number a = ap (λ (u : Updating). u .signals) (update-refused signals telegram (readOf telegram) refl number (told (readOf telegram .verdict) refl .0 number a))
+  refused-misses number a = ap (λ (u : Updating). u .signals) (update-refused signals telegram (trainReading telegram) refl number (told (trainReading telegram .verdict) refl .0 number a))
 
   -- S-19: an accepted one gives the states that it says, and sets the count to 0
   pub accepted-says : noted ≡ acceptance → updateOf signals true telegram .signals ≡ signalsWith (statesOf telegram) 0
   accepted-says a =
-      let v : readOf telegram .verdict ≡ Accepted = told (readOf telegram .verdict) refl .1 a in
-      ap (λ (u : Updating). u .signals) (update-accepted signals telegram (readOf telegram) refl v) ∙ ap (λ (states : States). signalsWith states 0) (accepted-states telegram v)
+      let v : trainReading telegram .verdict ≡ Accepted = told (trainReading telegram .verdict) refl .1 a in
+      ap (λ (u : Updating). u .signals) (update-accepted signals telegram (trainReading telegram) refl v) ∙ ap (λ (states : States). signalsWith states 0) (accepted-states telegram v)
 
   -- M-2c, M-2e, S-12: each signal then has the state of the code in its own bits and no other: no invalid code shows as a valid state,
   -- an invalid signal leaves its neighbours alone, and nothing of the record before is left

@@ -6,7 +6,7 @@ use lib.Dec.{ltb}
 use Rattle.wire.specs.declared.verdicts.Verdict.{Verdict}
 use Rattle.wire.specs.declared.verdicts.Verdict.the-variants.{Accepted, Refused}
 use Rattle.train_telegram.specs.States.{silent}
-use Rattle.train_telegram.specs.Readings.{readOf}
+use Rattle.train_telegram.specs.Readings.{trainReading}
 use Rattle.train_telegram.specs.declared.states.States.{States}
 use Rattle.signals.specs.Answers.{acceptance, absence, refusalUnder, Updating}
 use Rattle.signals.specs.declared.Signals.{Signals}
@@ -27,11 +27,11 @@ freshSignals = signalsWith silent 0
 
 -- S-13, S-20: a refused telegram is a miss, and changes nothing else
 -- S-12, S-19: an accepted one gives every signal its own state, whatever it was before, and sets the count to 0
-abbrev pub afterReading : Signals → Verdict → States → Updating
-afterReading signals (Refused number) states = record { noted = refusalUnder number; signals = missedBy signals }
-afterReading signals Accepted states = record { noted = acceptance; signals = signalsWith states 0 }
+abbrev pub afterTrainReading : Signals → Verdict → States → Updating
+afterTrainReading signals (Refused number) states = record { noted = refusalUnder number; signals = missedBy signals }
+afterTrainReading signals Accepted states = record { noted = acceptance; signals = signalsWith states 0 }
 
 -- M-1b, S-14: the answer to a call and the next record. A call with no telegram is a miss, and no refusal.
 unfoldable pub updateOf : Signals → Bool → List ℕ → Updating
 updateOf signals false telegram = record { noted = absence; signals = missedBy signals }
-updateOf signals true telegram = afterReading signals (readOf telegram .verdict) (readOf telegram .states)
+updateOf signals true telegram = afterTrainReading signals (trainReading telegram .verdict) (trainReading telegram .states)

@@ -14,7 +14,7 @@ use Rattle.train_telegram.specs.States.{systemWith}
 use Rattle.train_codes.specs.declared.Isolation.the-variants as Isolation′
 use Rattle.train_telegram.specs.declared.states.States.{States}
 use Rattle.signals.specs.Answers.{Receipt, was-accepted, was-missed, was-refused, Updating}
-use Rattle.signals_output.specs.Lines.{receiptWords, answerWords, missesWord, systemWord, stateWords, lineOf}
+use Rattle.signals_output.specs.Lines.{receiptWords, answerWords, missesWord, nationalWord, stateWords, lineOf}
 
 answer-short : (receipt : Receipt) (number : ℕ) → number < 256 → length (receiptWords receipt number) ≤ 11
 answer-short was-accepted number p = omega arith
@@ -24,7 +24,7 @@ answer-short was-refused number p = omega (arith, length-append refusedWord (dec
 states-short : (states : States) → length (stateWords states) ≤ 237
 unfolding stateWords
 states-short states =
-    let systems = each (systemWord (states .national)) 0 16 in
+    let systems = each (nationalWord (states .national)) 0 16 in
     omega (
       arith,
       length-append (cabWord (states .cab)) (brakeWord (states .brake) ++ (systems ++ tractionWord (states .traction))),
@@ -32,7 +32,7 @@ states-short states =
       length-append systems (tractionWord (states .traction)),
       cab-short (states .cab),
       brake-short (states .brake),
-      length-each-most (systemWord (states .national)) 13 (λ i. isolation-short (getD (states .national) i (systemWith Isolation′.Silent) .isolation)) 0 16,
+      length-each-most (nationalWord (states .national)) 13 (λ i. isolation-short (getD (states .national) i (systemWith Isolation′.Silent) .isolation)) 0 16,
       traction-short (states .traction),
     )
 

@@ -11,7 +11,7 @@ ghost use Rattle.kit.specs.Put.{Poured};
 ghost use Rattle.page.specs.Pages.{Paged};
 ghost use Rattle.kit.specs.Each.{each};
 ghost use Rattle.signals.specs.Answers.{notedOf, updatingOf};
-ghost use Rattle.signals_output.specs.Lines.{answerWords, missesWord, systemWord, stateWords, lineOf, shortLine};
+ghost use Rattle.signals_output.specs.Lines.{answerWords, missesWord, nationalWord, stateWords, lineOf, shortCallLine};
 
 // Each word after the first has a blank before it.
 const BLANK: u8 = 32;
@@ -43,7 +43,7 @@ fn put_misses(misses: u8, page: &mut [u8], at: usize) -> usize
 // The sixteen systems, from 1.
 fn put_national(national: [National; 16], page: &mut [u8], at: usize) -> usize
     requires { ⌜ at + 256 ≤ length (now page) ⌝ }
-    ensures { λ r. ⌜ Paged 256 (now (page .entry)) at (each (systemWord national) 0 16) (now (page .exit)) r ⌝ }
+    ensures { λ r. ⌜ Paged 256 (now (page .entry)) at (each (nationalWord national) 0 16) (now (page .exit)) r ⌝ }
 {
     let mut next = at;
     let mut i: usize = 0;
@@ -87,7 +87,7 @@ pub fn put_line(updated: Updated, line: &mut [u8], at: usize) -> usize
 
 // `short call` and a line feed.
 pub fn put_short(line: &mut [u8], at: usize) -> usize
-    ensures { λ r. ⌜ Poured (now (line .entry)) at shortLine (now (line .exit)) r ⌝ }
+    ensures { λ r. ⌜ Poured (now (line .entry)) at shortCallLine (now (line .exit)) r ⌝ }
 {
     text::put_words(line, at, b"short call\n")
 }

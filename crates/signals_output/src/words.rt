@@ -8,13 +8,13 @@ ghost use mathlib.Core.Path.{_≡_};
 ghost use lib.ListN.{length};
 ghost use Prim.Native.Nat.{_+_, _≤_};
 ghost use Rattle.page.specs.Pages.{Paged};
-ghost use Rattle.page.specs.Words.{wordBytes};
+ghost use Rattle.page.specs.Words.{bytesOfWord};
 ghost use Rattle.state_words.specs.Words.{cabWord, brakeWord, isolationWord, tractionWord};
 
 const BLANK: u8 = 32;
 
 fn cab_word(cab: Cab) -> Word
-    ensures { λ r. ⌜ wordBytes r ≡ cabWord cab ⌝ }
+    ensures { λ r. ⌜ bytesOfWord r ≡ cabWord cab ⌝ }
 {
     match cab {
         Cab::Silent => page::word_of(b" silent"),
@@ -26,7 +26,7 @@ fn cab_word(cab: Cab) -> Word
 }
 
 fn brake_word(brake: Brake) -> Word
-    ensures { λ r. ⌜ wordBytes r ≡ brakeWord brake ⌝ }
+    ensures { λ r. ⌜ bytesOfWord r ≡ brakeWord brake ⌝ }
 {
     match brake {
         Brake::Silent => page::word_of(b" silent"),
@@ -39,7 +39,7 @@ fn brake_word(brake: Brake) -> Word
 }
 
 fn isolation_word(isolation: Isolation) -> Word
-    ensures { λ r. ⌜ wordBytes r ≡ isolationWord isolation ⌝ }
+    ensures { λ r. ⌜ bytesOfWord r ≡ isolationWord isolation ⌝ }
 {
     match isolation {
         Isolation::Silent => page::word_of(b" silent"),

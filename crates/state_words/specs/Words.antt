@@ -1,6 +1,5 @@
 -- The words for the states of signals, each with the blank before it.
 use Prim.Native.Nat.{ℕ}
-use Prim.Native.Char.{code}
 use mathlib.Core.List.{List, _∷_}
 use Rattle.kit.specs.Text.{ascii}
 use Rattle.text.specs.Words.{blank}
@@ -15,16 +14,16 @@ use Rattle.train_codes.specs.declared.Traction.{Traction}
 use Rattle.train_codes.specs.declared.Traction.the-variants as Traction′
 
 -- S-16
-abbrev pub silent : List ℕ
-silent = ascii " silent"
+abbrev pub silentWord : List ℕ
+silentWord = ascii " silent"
 
 -- S-12
 abbrev pub invalid : List ℕ
 invalid = ascii " invalid"
 
 -- S-09
-abbrev pub none : List ℕ
-none = ascii " none"
+abbrev pub noneWord : List ℕ
+noneWord = ascii " none"
 
 abbrev pub cabA : List ℕ
 cabA = ascii " A"
@@ -46,23 +45,23 @@ abbrev pub unknown : List ℕ
 unknown = ascii " unknown"
 
 -- S-11
-abbrev pub isolated : List ℕ
-isolated = ascii " isolated"
+abbrev pub isolatedWord : List ℕ
+isolatedWord = ascii " isolated"
 
-abbrev pub notIsolated : List ℕ
-notIsolated = ascii " not-isolated"
+abbrev pub notIsolatedWord : List ℕ
+notIsolatedWord = ascii " not-isolated"
 
 -- S-09
 abbrev pub cabWord : Cab → List ℕ
-cabWord Cab′.Silent = silent
-cabWord Cab′.None = none
+cabWord Cab′.Silent = silentWord
+cabWord Cab′.None = noneWord
 cabWord Cab′.A = cabA
 cabWord Cab′.B = cabB
 cabWord Cab′.Invalid = invalid
 
 -- S-10
 abbrev pub brakeWord : Brake → List ℕ
-brakeWord Brake′.Silent = silent
+brakeWord Brake′.Silent = silentWord
 brakeWord Brake′.PassengerInP = passengerP
 brakeWord Brake′.FreightInP = freightP
 brakeWord Brake′.FreightInG = freightG
@@ -71,12 +70,12 @@ brakeWord Brake′.Invalid = invalid
 
 -- S-11
 abbrev pub isolationWord : Isolation → List ℕ
-isolationWord Isolation′.Silent = silent
-isolationWord Isolation′.Isolated = isolated
-isolationWord Isolation′.NotIsolated = notIsolated
+isolationWord Isolation′.Silent = silentWord
+isolationWord Isolation′.Isolated = isolatedWord
+isolationWord Isolation′.NotIsolated = notIsolatedWord
 isolationWord Isolation′.Invalid = invalid
 
 -- S-07: eight digits of the list, or silent
 abbrev pub tractionWord : Traction → List ℕ
-tractionWord Traction′.Silent = silent
+tractionWord Traction′.Silent = silentWord
 tractionWord (Traction′.Supported systems) = blank ∷ hexadecimal 8 systems

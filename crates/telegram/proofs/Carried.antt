@@ -4,7 +4,7 @@ use mathlib.Core.Path.{_≡_, refl, sym, ap, _∙_, subst}
 use mathlib.Core.List.{List}
 use lib.ListN.{length, getD}
 use native.Mathlib.Omega.{arith}
-use Rattle.condition.specs.Slots.{emptySlot, Held}
+use Rattle.condition.specs.Slots.{emptySlot, MayHold}
 use Rattle.wire.specs.Steps.{steps}
 use Rattle.condition.specs.declared.slots.Slot.{Slot}
 use Rattle.telegram.specs.Sendable.{Sendable}
@@ -32,7 +32,7 @@ pub carried-once : (packet k i : ℕ) → 3 ≤ packet → k < 4 → firstSlot p
 carried-once packet k i low small e = (omega arith, omega arith)
 
 -- a table whose slots are held and whose numbers differ gives packets that can be sent, and so (`read-again`) are read back
-module _ (table : List Slot) (held : (i : ℕ) → Held (getD table i emptySlot))
+module _ (table : List Slot) (held : (i : ℕ) → MayHold (getD table i emptySlot))
     (distinct : (i j : ℕ) → i < j → 0 < getD table i emptySlot .number → getD table i emptySlot .number ≡ getD table j emptySlot .number → ⊥) where
   pub table-sendable : (packet step : ℕ) → 3 ≤ packet → packet ≤ 7 → step < steps → Sendable (record { packet = packet; step = step; slots = fourOf table packet })
   unfolding fourOf
@@ -42,7 +42,7 @@ module _ (table : List Slot) (held : (i : ℕ) → Held (getD table i emptySlot)
         packet-to = high;
         step-below = small;
         four = refl;
-        held = four-each (λ n x. Held x) (carriedSlot table packet) (λ n below. held (firstSlot packet + n)) (λ n past. refl);
+        held = four-each (λ n x. MayHold x) (carriedSlot table packet) (λ n below. held (firstSlot packet + n)) (λ n past. refl);
         distinct = λ i j p q positive same.
             let a = four-at table packet i (omega arith) in
             let b = four-at table packet j q in

@@ -7,7 +7,7 @@ use lib.Dec.{eqb, ltb}
 use lib.ListN.{length, getD}
 use native.Mathlib.Omega.{arith}
 use borrow.Author.Tests.{ltb-true, eq-eqb, ne-eqb, le-ltb}
-use Rattle.kit.specs.Ladder.{Silent}
+use Rattle.kit.specs.Ladder.{NoneHolds}
 use Rattle.kit.proofs.Cases.{on}
 use Rattle.kit.proofs.Ladder.{ladder-silent, silent-join, silent-all}
 use Rattle.kit.proofs.Loops.{scan-none}
@@ -16,7 +16,7 @@ use Rattle.condition.specs.declared.slots.Body.{Body}
 use Rattle.condition.specs.declared.slots.Body.the-variants.{Empty, Area, Traction, Current}
 use Rattle.wire.specs.declared.verdicts.Verdict.the-variants.{Accepted}
 use Rattle.condition.proofs.Coding.{coded-silent, slot-in-back}
-use Rattle.telegram.specs.Telegrams.{place, codedAt, takenBefore, takenRow, placeRows, readRows, slotAt, telegramOf, readOf, bytesOf}
+use Rattle.telegram.specs.Telegrams.{placeStart, codedAt, takenBefore, takenRow, placeRows, readRows, slotAt, telegramOf, readOf, bytesOf}
 use Rattle.telegram.specs.Sendable.{slotOn, Sendable}
 use Rattle.telegram.specs.declared.Telegram.{Telegram}
 use Rattle.telegram.proofs.Four.{four-list}
@@ -42,23 +42,23 @@ module _ (t : Telegram) (s : Sendable t) where
       on (ltb 0 n)
       (λ e.
       rw e
-      (scan-none (λ j. eqb (getD (bytesOf t) (place j) 0) n) (λ j. true) false 0 k
+      (scan-none (λ j. eqb (getD (bytesOf t) (placeStart j) 0) n) (λ j. true) false 0 k
       (λ j low below.
-      ne-eqb (getD (bytesOf t) (place j) 0) n
+      ne-eqb (getD (bytesOf t) (placeStart j) 0) n
       (λ same.
       let a : codedAt (bytesOf t) j .number ≡ slotOn t j .number = number-on j (omega arith) in
       let b : n ≡ slotOn t k .number = number-on k p in
       s .distinct j k (omega arith) p (omega (arith, ltb-true 0 n e)) (sym a ∙ (same ∙ b))))))
       (λ e. rw e refl)
 
-  places-silent : (k : ℕ) → k < 4 → Silent (placeRows (bytesOf t) k)
+  places-silent : (k : ℕ) → k < 4 → NoneHolds (placeRows (bytesOf t) k)
   places-silent k p =
       silent-join (slotRows (codedAt (bytesOf t) k)) (takenRow (bytesOf t) k (codedAt (bytesOf t) k .number))
-      (subst (λ c. Silent (slotRows c)) (sym (coded-on t k p)) (coded-silent (slotOn t k) (s .held k)))
+      (subst (λ c. NoneHolds (slotRows c)) (sym (coded-on t k p)) (coded-silent (slotOn t k) (s .held k)))
       (untaken k p, tt)
 
   -- no row refuses it
-  pub sent-silent : Silent (readRows (bytesOf t))
+  pub sent-silent : NoneHolds (readRows (bytesOf t))
   unfolding readRows
   sent-silent = (
     rw (eq-eqb (length (bytesOf t)) 26 (length-bytes t)) refl,

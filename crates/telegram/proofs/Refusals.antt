@@ -7,7 +7,7 @@ use mathlib.Core.List.{List}
 use lib.Dec.{eqb, leb}
 use lib.ListN.{length}
 use borrow.Author.Tests.{eqb-true, eqb-false, eq-eqb, leb-true, le-leb, not-false}
-use Rattle.kit.specs.Ladder.{Decides, Silent}
+use Rattle.kit.specs.Ladder.{Decides, NoneHolds}
 use Rattle.kit.proofs.Cases.{on, and-both}
 use Rattle.wire.proofs.Answers.{accepted-or-refused, refused-when, accepted-when}
 use Rattle.wire.specs.declared.verdicts.Verdict.the-variants.{Accepted, Refused}
@@ -20,7 +20,7 @@ module _ (bytes : List ℕ) where
   unfolding readOf
   reading-refused = refused-when (readRows bytes) (read-numbered bytes)
 
-  pub reading-accepted : (readOf bytes .verdict ≡ Accepted) ↔ Silent (readRows bytes)
+  pub reading-accepted : (readOf bytes .verdict ≡ Accepted) ↔ NoneHolds (readRows bytes)
   unfolding readOf
   reading-accepted = accepted-when (readRows bytes) (read-numbered bytes)
 
@@ -29,7 +29,7 @@ module _ (t : Telegram) (buffer : List ℕ) where
   unfolding writeVerdict
   writing-refused = refused-when (writeRows (t .packet) (length buffer)) (write-numbered (t .packet) (length buffer))
 
-  pub writing-accepted : (writeVerdict t buffer ≡ Accepted) ↔ Silent (writeRows (t .packet) (length buffer))
+  pub writing-accepted : (writeVerdict t buffer ≡ Accepted) ↔ NoneHolds (writeRows (t .packet) (length buffer))
   unfolding writeVerdict
   writing-accepted = accepted-when (writeRows (t .packet) (length buffer)) (write-numbered (t .packet) (length buffer))
 
@@ -61,6 +61,6 @@ module _ (t : Telegram) (buffer : List ℕ) where
   -- R-09, R-10: and an accepted one is of a packet from 3 to 7, into a buffer of 26 bytes
   pub accepted-asked : writeVerdict t buffer ≡ Accepted → (3 ≤ t .packet) × (t .packet ≤ 7) × (length buffer ≡ 26)
   accepted-asked e =
-      let rows : Silent (writeRows (t .packet) (length buffer)) = writing-accepted .0 e in
+      let rows : NoneHolds (writeRows (t .packet) (length buffer)) = writing-accepted .0 e in
       let asked = and-both (leb 3 (t .packet)) (leb (t .packet) 7) (not-false _ (rows .0)) in
       (leb-true 3 (t .packet) (asked .0), leb-true (t .packet) 7 (asked .1), eqb-true (length buffer) 26 (not-false _ (rows .1 .0)))

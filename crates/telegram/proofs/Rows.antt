@@ -13,7 +13,7 @@ use Rattle.condition.specs.declared.slots.Coded.{Coded}
 use Rattle.condition.proofs.Coding.{slot-numbered}
 use Rattle.wire.specs.declared.verdicts.Verdict.the-variants.{Accepted, Refused}
 use Rattle.wire.proofs.Answers.{verdict-accepted, verdict-refused}
-use Rattle.telegram.specs.Telegrams.{codedAt, takenRow, placeRows, readRows, telegramOf, blank, readOf, bytesOf, writeRows, writeVerdict, written}
+use Rattle.telegram.specs.Telegrams.{codedAt, takenRow, placeRows, readRows, telegramOf, blankTelegram, readOf, bytesOf, writeRows, writeVerdict, written}
 use Rattle.telegram.specs.declared.Telegram.{Telegram}
 
 -- every answer of these ladders is a number of document 01, and so not 0
@@ -41,7 +41,7 @@ place-above bytes k coded same =
 
 -- the two ways of a reading: refused, with the blank telegram beside it, or accepted
 module _ (bytes : List ℕ) (number : ℕ) (same : number ≡ ladder 0 (readRows bytes)) where
-  pub read-refused : (number ≡ 0 → ⊥) → readOf bytes ≡ record { verdict = Refused number; telegram = blank }
+  pub read-refused : (number ≡ 0 → ⊥) → readOf bytes ≡ record { verdict = Refused number; telegram = blankTelegram }
   unfolding readOf
   read-refused n = rw (← same, verdict-refused number n, ne-eqb number 0 n) refl
 

@@ -5,14 +5,14 @@ use mathlib.Core.List.{List}
 use lib.ListN.{length, getD}
 use native.Mathlib.Nat.{zero-add}
 use native.Mathlib.Omega.{arith}
-use Rattle.kit.specs.Bytes.{word}
+use Rattle.kit.specs.Bytes.{wordOfTwo}
 use Rattle.kit.proofs.Bytes.{word-back}
 use Rattle.kit.proofs.Each.{length-each, each-at}
 use Rattle.condition.specs.Slots.{codedOf, sixOf}
 use Rattle.wire.specs.Steps.{steps}
 use Rattle.condition.specs.declared.slots.Coded.{Coded}
 use Rattle.condition.specs.declared.slots.Slot.{Slot}
-use Rattle.telegram.specs.Telegrams.{packetIn, stepIn, place, codedAt, sixAt, bytesOf}
+use Rattle.telegram.specs.Telegrams.{packetIn, stepIn, placeStart, codedAt, sixAt, bytesOf}
 use Rattle.telegram.specs.Sendable.{slotOn}
 use Rattle.telegram.specs.declared.Telegram.{Telegram}
 
@@ -37,14 +37,14 @@ module _ (t : Telegram) where
   unfolding sixOf codedAt
   coded-on k p =
       let c : Coded = codedOf (slotOn t k) in
-      let b0 : getD (bytesOf t) (place k) 0 ≡ c .number = byte-at k 0 (place k) p (omega arith) (omega arith) in
-      let b1 : getD (bytesOf t) (place k + 1) 0 ≡ c .kind = byte-at k 1 (place k + 1) p (omega arith) (omega arith) in
-      let b2 : getD (bytesOf t) (place k + 2) 0 ≡ c .first / 256 = byte-at k 2 (place k + 2) p (omega arith) (omega arith) in
-      let b3 : getD (bytesOf t) (place k + 3) 0 ≡ c .first % 256 = byte-at k 3 (place k + 3) p (omega arith) (omega arith) in
-      let b4 : getD (bytesOf t) (place k + 4) 0 ≡ c .second / 256 = byte-at k 4 (place k + 4) p (omega arith) (omega arith) in
-      let b5 : getD (bytesOf t) (place k + 5) 0 ≡ c .second % 256 = byte-at k 5 (place k + 5) p (omega arith) (omega arith) in
-      let w : word (getD (bytesOf t) (place k + 2) 0) (getD (bytesOf t) (place k + 3) 0) ≡ c .first = rw (b2, b3) (word-back (c .first)) in
-      let v : word (getD (bytesOf t) (place k + 4) 0) (getD (bytesOf t) (place k + 5) 0) ≡ c .second = rw (b4, b5) (word-back (c .second)) in
+      let b0 : getD (bytesOf t) (placeStart k) 0 ≡ c .number = byte-at k 0 (placeStart k) p (omega arith) (omega arith) in
+      let b1 : getD (bytesOf t) (placeStart k + 1) 0 ≡ c .kind = byte-at k 1 (placeStart k + 1) p (omega arith) (omega arith) in
+      let b2 : getD (bytesOf t) (placeStart k + 2) 0 ≡ c .first / 256 = byte-at k 2 (placeStart k + 2) p (omega arith) (omega arith) in
+      let b3 : getD (bytesOf t) (placeStart k + 3) 0 ≡ c .first % 256 = byte-at k 3 (placeStart k + 3) p (omega arith) (omega arith) in
+      let b4 : getD (bytesOf t) (placeStart k + 4) 0 ≡ c .second / 256 = byte-at k 4 (placeStart k + 4) p (omega arith) (omega arith) in
+      let b5 : getD (bytesOf t) (placeStart k + 5) 0 ≡ c .second % 256 = byte-at k 5 (placeStart k + 5) p (omega arith) (omega arith) in
+      let w : wordOfTwo (getD (bytesOf t) (placeStart k + 2) 0) (getD (bytesOf t) (placeStart k + 3) 0) ≡ c .first = rw (b2, b3) (word-back (c .first)) in
+      let v : wordOfTwo (getD (bytesOf t) (placeStart k + 4) 0) (getD (bytesOf t) (placeStart k + 5) 0) ≡ c .second = rw (b4, b5) (word-back (c .second)) in
       λ i. record { number = b0 i; kind = b1 i; first = w i; second = v i }
 
   pub packet-on : t .packet ≤ 7 → packetIn (bytesOf t) ≡ t .packet

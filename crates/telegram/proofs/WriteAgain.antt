@@ -9,14 +9,14 @@ use lib.ListN.{getD}
 use native.Mathlib.Nat.{add-zero}
 use native.Mathlib.Omega.{arith}
 use borrow.Author.Tests.{leb-true, leb-false}
-use Rattle.kit.specs.Bytes.{Bytes, word}
-use Rattle.kit.specs.Ladder.{Silent}
+use Rattle.kit.specs.Bytes.{Bytes}
+use Rattle.kit.specs.Ladder.{NoneHolds}
 use Rattle.kit.proofs.Bytes.{high-back, low-back}
 use Rattle.kit.proofs.Cases.{on}
 use Rattle.condition.specs.Slots.{codedOf, settled, sixOf}
 use Rattle.kinds.specs.Words.{isConsidered, secondHeld}
 use Rattle.condition.proofs.Coding.{coded-back}
-use Rattle.telegram.specs.Telegrams.{place, codedAt, readRows, sixAt, telegramOf, bytesOf}
+use Rattle.telegram.specs.Telegrams.{placeStart, codedAt, readRows, sixAt, telegramOf, bytesOf}
 use Rattle.telegram.specs.Sendable.{isIdle}
 use Rattle.telegram.proofs.Valid.{slot-meant, slot-read}
 use Rattle.telegram.proofs.Wire.{byte-at}
@@ -26,23 +26,23 @@ module _ (bytes : List ℕ) (fits : Bytes bytes) where
   idleAt k r = leb 4 r && not (isConsidered (codedAt bytes k .kind) (codedAt bytes k .first))
 
   -- byte r of place k, settled
-  settled-byte : (k r : ℕ) → r < 6 → getD (sixOf (settled (codedAt bytes k))) r 0 ≡ cond (idleAt k r) 0 (getD bytes (place k + r) 0)
+  settled-byte : (k r : ℕ) → r < 6 → getD (sixOf (settled (codedAt bytes k))) r 0 ≡ cond (idleAt k r) 0 (getD bytes (placeStart k + r) 0)
   unfolding sixOf secondHeld codedAt
-  settled-byte k zero p = ap (λ i. getD bytes i 0) (sym (add-zero (place k)))
+  settled-byte k zero p = ap (λ i. getD bytes i 0) (sym (add-zero (placeStart k)))
   settled-byte k (suc zero) p = refl
-  settled-byte k (suc (suc zero)) p = high-back (getD bytes (place k + 2) 0) (getD bytes (place k + 3) 0) (fits (place k + 3))
-  settled-byte k (suc (suc (suc zero))) p = low-back (getD bytes (place k + 2) 0) (getD bytes (place k + 3) 0) (fits (place k + 3))
+  settled-byte k (suc (suc zero)) p = high-back (getD bytes (placeStart k + 2) 0) (getD bytes (placeStart k + 3) 0) (fits (placeStart k + 3))
+  settled-byte k (suc (suc (suc zero))) p = low-back (getD bytes (placeStart k + 2) 0) (getD bytes (placeStart k + 3) 0) (fits (placeStart k + 3))
   settled-byte k (suc (suc (suc (suc zero)))) p =
       on (isConsidered (codedAt bytes k .kind) (codedAt bytes k .first))
-      (λ e. rw e (high-back (getD bytes (place k + 4) 0) (getD bytes (place k + 5) 0) (fits (place k + 5))))
+      (λ e. rw e (high-back (getD bytes (placeStart k + 4) 0) (getD bytes (placeStart k + 5) 0) (fits (placeStart k + 5))))
       (λ e. rw e refl)
   settled-byte k (suc (suc (suc (suc (suc zero))))) p =
       on (isConsidered (codedAt bytes k .kind) (codedAt bytes k .first))
-      (λ e. rw e (low-back (getD bytes (place k + 4) 0) (getD bytes (place k + 5) 0) (fits (place k + 5))))
+      (λ e. rw e (low-back (getD bytes (placeStart k + 4) 0) (getD bytes (placeStart k + 5) 0) (fits (placeStart k + 5))))
       (λ e. rw e refl)
   settled-byte k (suc (suc (suc (suc (suc (suc r)))))) p = absurd (omega arith)
 
-  module _ (s : Silent (readRows bytes)) where
+  module _ (s : NoneHolds (readRows bytes)) where
     -- place k, read and coded again
     six-again : (k : ℕ) → k < 4 → sixAt (telegramOf bytes .slots) k ≡ sixOf (settled (codedAt bytes k))
     six-again k p = ap (λ x. sixOf (codedOf x)) (slot-meant bytes k p) ∙ ap sixOf (coded-back (codedAt bytes k) (slot-read bytes s k p))
@@ -55,7 +55,7 @@ module _ (bytes : List ℕ) (fits : Bytes bytes) where
 
     place-again : (i k r : ℕ) → k < 4 → r < 6 → i ≡ 2 + (k * 6 + r) → getD (bytesOf (telegramOf bytes)) i 0 ≡ cond (idleAt k r) 0 (getD bytes i 0)
     place-again i k r p q e =
-        let same : place k + r ≡ i = omega arith in
+        let same : placeStart k + r ≡ i = omega arith in
         byte-at (telegramOf bytes) k r i p q e
         ∙ (ap (λ six. getD six r 0) (six-again k p)
         ∙ (settled-byte k r q ∙ ap (λ j. cond (idleAt k r) 0 (getD bytes j 0)) same))

@@ -5,7 +5,7 @@ use mathlib.Core.Bool.{Bool, not, _&&_}
 use mathlib.Core.List.{List}
 use lib.Dec.{leb}
 use lib.ListN.{length, getD}
-use Rattle.condition.specs.Slots.{emptySlot, Held}
+use Rattle.condition.specs.Slots.{emptySlot, MayHold}
 use Rattle.wire.specs.Steps.{steps}
 use Rattle.kinds.specs.Words.{isConsidered}
 use Rattle.condition.specs.declared.slots.Slot.{Slot}
@@ -22,7 +22,7 @@ pub record Sendable (t : Telegram) : Type 0 where
   pub packet-to : t .packet ≤ 7
   pub step-below : t .step < steps
   pub four : length (t .slots) ≡ 4
-  pub held : (k : ℕ) → Held (slotOn t k)
+  pub held : (k : ℕ) → MayHold (slotOn t k)
   pub distinct : (i j : ℕ) → i < j → j < 4 → 0 < slotOn t i .number → slotOn t i .number ≡ slotOn t j .number → ⊥
 
 -- K-10, K-12: byte i is one of the two of a second word that is not considered. After the first two bytes, byte i lies in place

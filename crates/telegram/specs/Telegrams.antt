@@ -4,7 +4,7 @@ use mathlib.Core.Bool.{Bool, cond, not, _&&_}
 use mathlib.Core.List.{List, [], _∷_, _++_}
 use lib.Dec.{eqb, ltb, leb}
 use lib.ListN.{length, getD}
-use Rattle.kit.specs.Bytes.{word, wordBytes}
+use Rattle.kit.specs.Bytes.{wordOfTwo, wordBytes}
 use Rattle.kit.specs.Each.{each}
 use Rattle.kit.specs.Ladder.{ladder}
 use Rattle.kit.specs.Loops.{any}
@@ -21,7 +21,7 @@ use Rattle.telegram.specs.declared.Telegram.{Telegram}
 
 -- T-02: bytes 0 and 1: packet number in the top three bits, step number in the low thirteen
 abbrev pub headIn : List ℕ → ℕ
-headIn bytes = word (getD bytes 0 0) (getD bytes 1 0)
+headIn bytes = wordOfTwo (getD bytes 0 0) (getD bytes 1 0)
 
 -- T-02: the top three bits
 abbrev pub packetIn : List ℕ → ℕ
@@ -36,24 +36,24 @@ abbrev pub headOf : ℕ → ℕ → ℕ
 headOf packet step = packet % 8 * steps + step % steps
 
 -- T-03: then four slots of six bytes
-abbrev pub place : ℕ → ℕ
-place k = 2 + 6 * k
+abbrev pub placeStart : ℕ → ℕ
+placeStart k = 2 + 6 * k
 
 -- T-03, K-05: number, type, first word, second word, high byte first
 unfoldable pub codedAt : List ℕ → ℕ → Coded
 codedAt bytes k =
     record {
-      number = getD bytes (place k) 0;
-      kind = getD bytes (place k + 1) 0;
-      first = word (getD bytes (place k + 2) 0) (getD bytes (place k + 3) 0);
-      second = word (getD bytes (place k + 4) 0) (getD bytes (place k + 5) 0);
+      number = getD bytes (placeStart k) 0;
+      kind = getD bytes (placeStart k + 1) 0;
+      first = wordOfTwo (getD bytes (placeStart k + 2) 0) (getD bytes (placeStart k + 3) 0);
+      second = wordOfTwo (getD bytes (placeStart k + 4) 0) (getD bytes (placeStart k + 5) 0);
     }
 
 -- ---- reading
 
 -- R-14: a number stands in one of the places below k
 unfoldable pub takenBefore : List ℕ → ℕ → ℕ → Bool
-takenBefore bytes k number = any (λ j. eqb (getD bytes (place j) 0) number) 0 k
+takenBefore bytes k number = any (λ j. eqb (getD bytes (placeStart j) 0) number) 0 k
 
 -- R-14: slot number above 0, already in an earlier slot of this telegram
 abbrev pub takenRow : List ℕ → ℕ → ℕ → List (Bool × ℕ)
@@ -87,12 +87,12 @@ telegramOf bytes =
     }
 
 -- C-02: what stands beside a refusal
-abbrev pub blank : Telegram
-blank = record { packet = 0; step = 0; slots = emptySlot ∷ emptySlot ∷ emptySlot ∷ emptySlot ∷ [] }
+abbrev pub blankTelegram : Telegram
+blankTelegram = record { packet = 0; step = 0; slots = emptySlot ∷ emptySlot ∷ emptySlot ∷ emptySlot ∷ [] }
 
 -- M-1b, M-2b: the verdict of reading, and the telegram
 unfoldable pub readOf : List ℕ → Reading
-readOf bytes = record { verdict = verdictOf (readRefusal bytes); telegram = cond (eqb (readRefusal bytes) 0) (telegramOf bytes) blank }
+readOf bytes = record { verdict = verdictOf (readRefusal bytes); telegram = cond (eqb (readRefusal bytes) 0) (telegramOf bytes) blankTelegram }
 
 -- ---- writing
 

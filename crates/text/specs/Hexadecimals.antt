@@ -7,9 +7,9 @@ use lib.Dec.{ltb}
 
 -- one digit in ASCII: 0 to 9, then a to f in lower case
 abbrev pub hexDigit : ℕ → ℕ
-hexDigit digit = cond (ltb digit 10) (code "0" + digit) (code "a" + (digit - 10))
+hexDigit value = cond (ltb value 10) (code "0" + value) (code "a" + (value - 10))
 
 -- so many digits, leading zeros too: the last one after those of a sixteenth of the number
 unfoldable pub hexadecimal : ℕ → ℕ → List ℕ
 hexadecimal zero number = []
-hexadecimal (suc digits) number = hexadecimal digits (number / 16) ++ (hexDigit (number % 16) ∷ [])
+hexadecimal (suc width) number = hexadecimal width (number / 16) ++ (hexDigit (number % 16) ∷ [])

@@ -20,8 +20,8 @@ use Rattle.train_telegram.specs.declared.states.National.{National}
 use Rattle.train_telegram.specs.declared.states.States.{States}
 
 -- W-05, S-12, C-12: the answer, and the states that are said; beside a refusal every signal is silent
-unfoldable pub readOf : List ℕ → Reading
-readOf t = record { verdict = verdictOf (trainRefusal t); states = cond (eqb (trainRefusal t) 0) (statesOf t) silent }
+unfoldable pub trainReading : List ℕ → Reading
+trainReading t = record { verdict = verdictOf (trainRefusal t); states = cond (eqb (trainRefusal t) 0) (statesOf t) silent }
 
 -- M-2c, M-2e, S-12: these states show a telegram: each signal has the state whose code stands in its own bits, and no other
 pub record Shows (states : States) (t : List ℕ) : Type 0 where

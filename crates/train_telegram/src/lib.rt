@@ -5,7 +5,7 @@ pub use states::National;
 pub use states::States;
 use wire::Verdict;
 ghost use mathlib.Core.Path.{_≡_};
-ghost use Rattle.train_telegram.specs.Readings.{readOf};
+ghost use Rattle.train_telegram.specs.Readings.{trainReading};
 
 // The answer to a telegram, and the states that it says. Beside a refusal every signal is silent.
 pub struct Reading {
@@ -15,7 +15,7 @@ pub struct Reading {
 
 // What a telegram of any bytes and any length says, or its refusal.
 pub fn read(telegram: &[u8]) -> Reading
-    ensures { λ r. ⌜ r ≡ readOf (now (telegram .entry)) ⌝ }
+    ensures { λ r. ⌜ r ≡ trainReading (now (telegram .entry)) ⌝ }
 {
     let refusal = train_codes::refusal_of(telegram);
     if refusal != 0 {

@@ -7,7 +7,7 @@ use mathlib.Core.List.{List}
 use lib.Dec.{eqb}
 use native.Mathlib.Omega.{arith}
 use borrow.Author.Tests.{eqb-true, eqb-false, eq-eqb, ne-eqb}
-use Rattle.kit.specs.Ladder.{ladder, Decides, Silent, Numbered}
+use Rattle.kit.specs.Ladder.{ladder, Decides, NoneHolds, Numbered}
 use Rattle.kit.proofs.Cases.{on}
 use Rattle.kit.proofs.Ladder.{refused-exactly, passed-exactly, decides-positive}
 use Rattle.wire.specs.Verdicts.{numberOf, verdictOf}
@@ -51,5 +51,5 @@ module _ (rows : List (Bool × ℕ)) (numbered : Numbered rows) where
           let n : ladder 0 rows ≡ number = refused-exactly rows numbered number p .1 d in
           ap verdictOf n ∙ verdict-refused number (λ z. omega arith)
 
-  pub accepted-when : (verdictOf (ladder 0 rows) ≡ Accepted) ↔ Silent rows
+  pub accepted-when : (verdictOf (ladder 0 rows) ≡ Accepted) ↔ NoneHolds rows
   accepted-when = (λ e. passed-exactly rows numbered .0 (verdict-number Accepted e), λ s. verdict-accepted (ladder 0 rows) (passed-exactly rows numbered .1 s))

@@ -1,11 +1,11 @@
 // Bytes, words and longer numbers, high byte first. Past the end of a slice every byte is 0, so that no function asks for a length.
 ghost use mathlib.Core.Path.{_≡_};
 ghost use lib.ListN.{getD};
-ghost use Rattle.kit.specs.Bytes.{word, wordAt, longAt};
+ghost use Rattle.kit.specs.Bytes.{wordOfTwo, wordAt, longAt};
 
 // A word of two bytes, high byte first.
 pub fn word(high: u8, low: u8) -> u16
-    ensures { λ r. ⌜ r ≡ word high low ⌝ }
+    ensures { λ r. ⌜ r ≡ wordOfTwo high low ⌝ }
 {
     high as u16 * 256 + low as u16
 }

@@ -7,20 +7,20 @@ use native.Mathlib.Omega.{arith}
 use borrow.Author.Needs.{needs}
 use borrow.Author.Tests.{eqb-true, eqb-false}
 use Rattle.kit.proofs.Cases.{on}
-use Rattle.condition.specs.Slots.{slots}
+use Rattle.condition.specs.Slots.{slotCount}
 use Rattle.order_list.specs.Lists.{orderAt, foundAt}
 use Rattle.order_list.specs.declared.Order.{Order}
 use Rattle.arriving.specs.Arriving.{AllFound}
 use Rattle.arriving.proofs.past_live.Statement.{statement}
 use Rattle.arriving.proofs.past_live.Tie as tie
 
-passed-more : (live list : List ℕ) (from j at : ℕ) (order : Order) → order ≡ orderAt list j → at ≡ foundAt live (order .number) → at < slots
+passed-more : (live list : List ℕ) (from j at : ℕ) (order : Order) → order ≡ orderAt list j → at ≡ foundAt live (order .number) → at < slotCount
     → AllFound live list from j → AllFound live list from (j + 1)
 passed-more live list from j at order e found p before i a b =
     on (eqb i j)
     (λ here.
-    subst (λ (k : ℕ). foundAt live (orderAt list k .number) < slots) (sym (eqb-true i j here))
-    (subst (λ (o : Order). foundAt live (o .number) < slots) e (subst (λ (k : ℕ). k < slots) found p)))
+    subst (λ (k : ℕ). foundAt live (orderAt list k .number) < slotCount) (sym (eqb-true i j here))
+    (subst (λ (o : Order). foundAt live (o .number) < slotCount) e (subst (λ (k : ℕ). k < slotCount) found p)))
     (λ there. before i a (omega (arith, eqb-false i j there)))
 
 abbrev Inv-loop : tie.InvT-loop

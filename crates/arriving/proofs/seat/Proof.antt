@@ -11,7 +11,7 @@ use borrow.Author.Needs.{needs}
 use borrow.Author.Tests.{lt-ltb, le-ltb}
 use Rattle.condition.specs.declared.slots.Body.{Body}
 use Rattle.places.specs.Places.{placeOf, lowestFree, isLive}
-use Rattle.condition.specs.Slots.{slots}
+use Rattle.condition.specs.Slots.{slotCount}
 use Rattle.order_list.specs.declared.Order.{Order}
 use Rattle.places.specs.declared.Place.{Place}
 use Rattle.places.proofs.Live.{lowest-free}
@@ -25,11 +25,11 @@ use Rattle.arriving.proofs.seat.Statement.{statement}
 use Rattle.arriving.proofs.seat.Tie as tie
 
 module _ (order : Order) (seats : Seats) (at : ℕ) (found : at ≡ placeOf (seats .places) (order .number)) where
-  live : at < slots → isLive (seats .places) (order .number) ≡ true
-  live p = subst (λ k. ltb k slots ≡ true) found (lt-ltb at slots p)
+  live : at < slotCount → isLive (seats .places) (order .number) ≡ true
+  live p = subst (λ k. ltb k slotCount ≡ true) found (lt-ltb at slotCount p)
 
-  unlive : slots ≤ at → isLive (seats .places) (order .number) ≡ false
-  unlive p = subst (λ k. ltb k slots ≡ false) found (le-ltb at slots p)
+  unlive : slotCount ≤ at → isLive (seats .places) (order .number) ≡ false
+  unlive p = subst (λ k. ltb k slotCount ≡ false) found (le-ltb at slotCount p)
 
 -- the place that a new order takes
 abbrev placed : Order → ℕ → Body → Place
@@ -72,7 +72,7 @@ returns-2 c =
     let searched = number .before .before in
     let start = searched .before .before in
     let a = start .args in
-    let twenty : length (a .seats .places) ≡ slots = sym (length-map (a .seats .places) _) ∙ start .good .0 .1 .1 .0 .1 .0 .1 in
+    let twenty : length (a .seats .places) ≡ slotCount = sym (length-map (a .seats .places) _) ∙ start .good .0 .1 .1 .0 .1 .0 .1 in
     let past : length (a .seats .places) ≤ c .before .place-of2 .result = omega (arith, twenty, c .if2 .taken) in
     crowded (isResting (a .rest) (a .step) (a .ended)) (a .order) (a .seats) _ _
     (unlive (a .order) (a .seats) _ (searched .place-of .ensures) (number .before .if1 .left))

@@ -9,7 +9,7 @@ use borrow.Author.Needs.{needs}
 use borrow.Author.Tests.{lt-ltb}
 use Rattle.kit.proofs.Cases.{on}
 use Rattle.kit.proofs.Loops.{fold-none, fold-turn}
-use Rattle.condition.specs.Slots.{slots}
+use Rattle.condition.specs.Slots.{slotCount}
 use Rattle.order_list.specs.Lists.{orderAt, foundAt}
 use Rattle.order_list.specs.declared.Order.{Order}
 use Rattle.places.specs.Places.{ordersOf, placeOf, isLive}
@@ -31,20 +31,20 @@ turn resting list first j order seats next e f g = fold-turn (λ i. seated resti
 abbrev AllLive : List Place → List ℕ → ℕ → ℕ → Type 0
 AllLive places list from to = (j : ℕ) → from ≤ j → j < to → isLive places (orderAt list j .number) ≡ true
 
-all-live : (places : List Place) (live list : List ℕ) (from to : ℕ) → length places ≡ slots → live ≡ ordersOf places → AllFound live list from to
+all-live : (places : List Place) (live list : List ℕ) (from to : ℕ) → length places ≡ slotCount → live ≡ ordersOf places → AllFound live list from to
     → AllLive places list from to
 all-live places live list from to twenty e all j a b =
     let o : ℕ = orderAt list j .number in
-    lt-ltb (placeOf places o) slots
-    (subst (λ (k : ℕ). k < slots) (ap (λ (l : List ℕ). foundAt l o) e ∙ found-live places o twenty) (all j a b))
+    lt-ltb (placeOf places o) slotCount
+    (subst (λ (k : ℕ). k < slotCount) (ap (λ (l : List ℕ). foundAt l o) e ∙ found-live places o twenty) (all j a b))
 
 begun : (resting : ℕ → Bool) (list : List ℕ) (first : Seats) → first ≡ seatedAll resting list first 0
 unfolding seatedAll
 begun resting list first = sym (fold-none _ _)
 
 -- the places stay as many
-still : (resting : ℕ → Bool) (order : Order) (seats next : Seats) → next ≡ seated resting order seats → length (seats .places) ≡ slots
-    → length (next .places) ≡ slots
+still : (resting : ℕ → Bool) (order : Order) (seats next : Seats) → next ≡ seated resting order seats → length (seats .places) ≡ slotCount
+    → length (next .places) ≡ slotCount
 still resting order seats next e twenty =
     ap (λ (s : Seats). length (s .places)) e
     ∙ (on (isLive (seats .places) (order .number))
@@ -72,7 +72,7 @@ passed resting list first seats from to p e live =
 
 abbrev Inv-loop : tie.InvT-loop
 Inv-loop last ended rest step list n seats₀ j₀ seats j =
-    (j ≤ n) × (seats ≡ seatedAll (isResting rest step ended) list seats₀ j) × (length (seats .places) ≡ slots)
+    (j ≤ n) × (seats ≡ seatedAll (isResting rest step ended) list seats₀ j) × (length (seats .places) ≡ slotCount)
 
 abbrev μ-loop : tie.MeasureT-loop
 μ-loop last ended rest step list n seats₀ j₀ seats j = n - j
@@ -88,7 +88,7 @@ loop-holds c =
     let start = c .before .before .before .before in
     let a = start .args in
     let first : Seats = record { places = a .kept; last = a .last } in
-    let twenty : length (a .kept) ≡ slots = start .good .0 .1 .0 .1 in (
+    let twenty : length (a .kept) ≡ slotCount = start .good .0 .1 .0 .1 in (
       c .past-live .ensures .1,
       passed (isResting (a .rest) (a .step) (a .ended)) (a .list .now) first first 0 _ (c .past-live .ensures .0) (begun _ _ first)
           (all-live (a .kept) _ (a .list .now) 0 _ twenty (c .before .before .orders-of .ensures) (c .past-live .ensures .2)),
@@ -123,7 +123,7 @@ loop-again c =
     let a = sat .before .before .before .before .before .before .before .before .args in
     let resting = isResting (a .rest) (a .step) (a .ended) in
     let first : Seats = record { places = a .kept; last = a .last } in
-    let twenty : length (sat .seat .result .places) ≡ slots = still resting _ (l .seats) (sat .seat .result) (sat .seat .ensures) (l .inv .2) in (
+    let twenty : length (sat .seat .result .places) ≡ slotCount = still resting _ (l .seats) (sat .seat .result) (sat .seat .ensures) (l .inv .2) in (
       c .past-live2 .ensures .1,
       passed resting (a .list .now) first _ (l .j + 1) _ (c .past-live2 .ensures .0)
           (turn resting (a .list .now) first (l .j) _ _ _ (sat .before .order-at .ensures) (l .inv .1) (sat .seat .ensures))

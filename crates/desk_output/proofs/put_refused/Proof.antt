@@ -1,6 +1,6 @@
 -- `put_refused`: the words and the two numbers, one after another.
 use Rattle.kit.proofs.Put.{poured-then}
-use Rattle.desk_output.specs.Outputs.{refusedLine}
+use Rattle.desk_output.specs.Outputs.{refusedListLine}
 use borrow.Author.Needs.{needs}
 use Rattle.desk_output.proofs.put_refused.Statement.{statement}
 use Rattle.desk_output.proofs.put_refused.Tie as tie
@@ -30,7 +30,7 @@ same-length : tie.Need-same-length
 same-length c = search needs
 
 returns : tie.Need-returns
-unfolding refusedLine
+unfolding refusedListLine
 returns c = poured-then (c .before .before .before .before .before .before .before .before .before .before .before .before .before .before .before .before .before .before .before .put-words .ensures)
     (poured-then (c .before .before .before .before .before .before .before .before .before .before .before .before .before .before .before .put-decimal .ensures) (poured-then (c .before .before .before .before .before .before .before .before .before .before .put-words2 .ensures) (poured-then (c .before .before .before .before .before .before .put-decimal2 .ensures) (c .before .before .put-byte .ensures))))
 

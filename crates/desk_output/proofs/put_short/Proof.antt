@@ -1,5 +1,5 @@
 -- `put_short`: the words are those of the line.
-use Rattle.desk_output.specs.Outputs.{shortLine}
+use Rattle.desk_output.specs.Outputs.{shortListLine}
 use borrow.Author.Needs.{needs}
 use Rattle.desk_output.proofs.put_short.Statement.{statement}
 use Rattle.desk_output.proofs.put_short.Tie as tie
@@ -14,7 +14,7 @@ same-length : tie.Need-same-length
 same-length c = search needs
 
 returns : tie.Need-returns
-unfolding shortLine
+unfolding shortListLine
 returns c = c .before .before .put-words .ensures
 
 pub put-short-spec : {M : Type 1} → statement M

@@ -9,10 +9,10 @@ use Rattle.condition.specs.declared.slots.Slot.{Slot}
 use Rattle.telegram.specs.Tables.{fourOf}
 use Rattle.telegram.specs.Telegrams.{bytesOf}
 use Rattle.telegram.specs.declared.Telegram.{Telegram}
-use Rattle.desk.specs.Desks.{tableOf, telegramOf}
+use Rattle.desk.specs.Desks.{tableOf, packetOf}
 use Rattle.desk.specs.declared.Desk.{Desk}
 use Rattle.desk.proofs.Tables.{telegram-is}
-use Rattle.desk_output.specs.Outputs.{tableBytes}
+use Rattle.desk_output.specs.Outputs.{fiveTelegrams}
 use Rattle.desk_output.proofs.put_table.Statement.{statement}
 use Rattle.desk_output.proofs.put_table.Tie as tie
 
@@ -22,7 +22,7 @@ carrying desk packet four = record { packet = packet; step = desk .step; slots =
 -- a packet with its four slots of the table is that of the desk
 module _ (desk : Desk) (table : List Slot) (e : table ≡ tableOf desk) where
   packed : (packet : ℕ) (four : List Slot) {l m : List ℕ} {at next : ℕ} → four ≡ fourOf table packet
-      → Poured l at (bytesOf (carrying desk packet four)) m next → Poured l at (bytesOf (telegramOf desk packet)) m next
+      → Poured l at (bytesOf (carrying desk packet four)) m next → Poured l at (bytesOf (packetOf desk packet)) m next
   packed packet four f =
       poured-as
       (ap bytesOf (telegram-is desk packet ∙ ap (carrying desk packet) (sym (f ∙ ap (λ (t : List Slot). fourOf t packet) e))))
@@ -64,7 +64,7 @@ same-length : tie.Need-same-length
 same-length c = search needs
 
 returns : tie.Need-returns
-unfolding tableBytes
+unfolding fiveTelegrams
 returns c =
     let fifth = c .before .before in
     let fourth = fifth .before .before .before .before .before in

@@ -12,7 +12,7 @@ use Rattle.frames.specs.Frames.{noBare}
 use Rattle.frames.proofs.Splitting.{size-bounds}
 use Rattle.frames.proofs.Pouring.{Pouring, pouring-start, pouring-more, pouring-end, pouring-last, pouring-as, pouring-length, pouring-room}
 use Rattle.desk.specs.Desks.{Made, made, called}
-use Rattle.desk_runs.specs.Runs.{tablesWith, linesWith, tablesOf, linesOf}
+use Rattle.desk_runs.specs.Runs.{tablesWith, refusedLinesWith, runTables, refusedLines}
 use Rattle.desk_runs.proofs.Outputs.{tables-more, lines-more, tables-none, lines-short, tables-end, lines-end}
 use Rattle.desk_runs.proofs.run.Statement.{statement}
 use Rattle.desk_runs.proofs.run.Tie as tie
@@ -21,8 +21,8 @@ abbrev Inv-loop : tie.InvT-loop
 Inv-loop input tables₀ lines₀ desk₀ ran₀ lists₀ rest₀ tables lines desk ran lists rest =
     Made desk
     × (lists + length rest ≤ length input)
-    × Pouring tables₀ (tablesOf input) tables (ran .tables) (tablesWith desk rest)
-    × Pouring lines₀ (linesOf input) lines (ran .lines) (linesWith desk lists rest)
+    × Pouring tables₀ (runTables input) tables (ran .tables) (tablesWith desk rest)
+    × Pouring lines₀ (refusedLines input) lines (ran .lines) (refusedLinesWith desk lists rest)
 
 abbrev μ-loop : tie.MeasureT-loop
 μ-loop input tables₀ lines₀ desk₀ ran₀ lists₀ rest₀ tables lines desk ran lists rest = length rest
@@ -31,7 +31,7 @@ fresh-requires : tie.Need-fresh-requires Inv-loop μ-loop
 fresh-requires c κs = search needs
 
 loop-holds : tie.Need-loop-holds Inv-loop μ-loop
-unfolding tablesOf linesOf
+unfolding runTables refusedLines
 loop-holds c =
     let start = c .before .before .before .before in
     let desk = c .fresh .ensures in
@@ -39,7 +39,7 @@ loop-holds c =
       subst⁻¹ Made desk made,
       search needs,
       pouring-as (ap (λ d. tablesWith d input) (sym desk)) pouring-start,
-      pouring-as (ap (λ d. linesWith d 0 input) (sym desk)) pouring-start,
+      pouring-as (ap (λ d. refusedLinesWith d 0 input) (sym desk)) pouring-start,
     )
 
 call-size-requires : tie.Need-call-size-requires Inv-loop μ-loop
@@ -105,7 +105,7 @@ loop-again c =
       omega (arith, l .inv .1, ap length left, length-drop (size .result) rest, size-bounds noBare rest (size .result) (size .ensures) some),
       pouring-as (ap₂ tablesWith desk left)
           (pouring-more (pouring-as (tables-more (l .desk) (l .lists) rest (size .result) (size .ensures) some) (l .inv .2)) (taken .ensures .1)),
-      pouring-as (ap₂ (λ d r. linesWith d (l .lists + 1) r) desk left)
+      pouring-as (ap₂ (λ d r. refusedLinesWith d (l .lists + 1) r) desk left)
           (pouring-more (pouring-as (lines-more (l .desk) (l .lists) rest (size .result) (size .ensures) some) (l .inv .3)) (taken .ensures .2)),
     )
 

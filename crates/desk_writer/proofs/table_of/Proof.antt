@@ -7,7 +7,7 @@ use native.Mathlib.Omega.{arith}
 use borrow.Author.Needs.{needs}
 use Rattle.kit.specs.Fill.{Filled}
 use Rattle.kit.proofs.Fill.{mapped-none, mapped-more, mapped-all}
-use Rattle.condition.specs.Slots.{emptySlot, slots}
+use Rattle.condition.specs.Slots.{emptySlot, slotCount}
 use Rattle.condition.specs.declared.slots.Slot.{Slot}
 use Rattle.places.specs.Places.{freePlace}
 use Rattle.places.specs.declared.Place.{Place}
@@ -19,12 +19,12 @@ abbrev slot : Place → Slot
 slot place = place .slot
 
 abbrev Inv-loop : tie.InvT-loop
-Inv-loop places table₀ i₀ table i = (i ≤ slots) × Filled emptySlot (map slot places) i table
+Inv-loop places table₀ i₀ table i = (i ≤ slotCount) × Filled emptySlot (map slot places) i table
 
 abbrev μ-loop : tie.MeasureT-loop
-μ-loop places table₀ i₀ table i = slots - i
+μ-loop places table₀ i₀ table i = slotCount - i
 
-twenty : (start : tie.Start Inv-loop μ-loop) → length (start .args .desk .places) ≡ slots
+twenty : (start : tie.Start Inv-loop μ-loop) → length (start .args .desk .places) ≡ slotCount
 twenty start = sym (length-map (start .args .desk .places) _) ∙ start .good .0 .1 .1 .0 .1 .0 .1
 
 empty-requires : tie.Need-empty-requires Inv-loop μ-loop
@@ -58,7 +58,7 @@ loop-again c =
     let l = c .before .before .before .loop in
     let start = c .before .before .before .before .before .before in
     let places = start .args .desk .places in
-    let p : l .i < slots = search needs in
+    let p : l .i < slotCount = search needs in
     (search needs, mapped-more slot places freePlace (omega (arith, twenty start)) (l .inv .1) refl)
 
 returns : tie.Need-returns Inv-loop μ-loop
@@ -66,7 +66,7 @@ unfolding tableOf
 returns c =
     let l = c .before .loop in
     let start = c .before .before .before .before in
-    let past : slots ≤ l .i = search needs in
+    let past : slotCount ≤ l .i = search needs in
     mapped-all slot (start .args .desk .places) (omega (arith, twenty start)) (l .inv .1)
 
 pub table-of-spec : {M : Type 1} → statement M

@@ -1,7 +1,7 @@
 -- `write`: the telegram that is written is the table's.
 use mathlib.Core.Path.{sym}
 use borrow.Author.Needs.{needs}
-use Rattle.desk.specs.Desks.{telegramOf}
+use Rattle.desk.specs.Desks.{packetOf}
 use Rattle.desk_writer.proofs.write.Statement.{statement}
 use Rattle.desk_writer.proofs.write.Tie as tie
 
@@ -18,7 +18,7 @@ same-length : tie.Need-same-length
 same-length c = search needs
 
 returns : tie.Need-returns
-unfolding telegramOf
+unfolding packetOf
 returns c =
     simp (sym (c .before .before .before .before .before .table-of .ensures), sym (c .before .before .before .before .four-of .ensures)) (c .before .before .write .ensures)
 

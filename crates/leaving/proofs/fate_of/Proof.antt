@@ -6,7 +6,7 @@ use mathlib.Core.Path.{_≡_, sym, _∙_, subst}
 use lib.Dec.{ltb}
 use borrow.Author.Needs.{needs}
 use borrow.Author.Tests.{eq-eqb, ne-eqb, lt-ltb, le-ltb}
-use Rattle.leaving.specs.Leaving.{keptPlace, endedEntry}
+use Rattle.leaving.specs.Leaving.{keptAmong, endedEntry}
 use Rattle.leaving.proofs.Left.{entry-stays}
 use Rattle.leaving.proofs.fate_of.Statement.{statement}
 use Rattle.leaving.proofs.fate_of.Tie as tie
@@ -24,7 +24,7 @@ none-requires : tie.Need-none-requires
 none-requires c κs = search needs
 
 returns : tie.Need-returns
-unfolding keptPlace endedEntry
+unfolding keptAmong endedEntry
 returns c =
     let judged = c .before .before .before in
     let a = judged .before .before .before .args in (
@@ -40,7 +40,7 @@ none-requires-2 : tie.Need-none-requires-2
 none-requires-2 c κs = search needs
 
 returns-2 : tie.Need-returns-2
-unfolding keptPlace endedEntry
+unfolding keptAmong endedEntry
 returns-2 c =
     let judged = c .before .before .before .before in (
       simp (sym (judged .before .listed .ensures), le-ltb _ _ (judged .if1 .left), c .before .free .ensures),
@@ -51,7 +51,7 @@ free-requires-2 : tie.Need-free-requires-2
 free-requires-2 c κs = search needs
 
 returns-3 : tie.Need-returns-3
-unfolding keptPlace endedEntry
+unfolding keptAmong endedEntry
 returns-3 c =
     let judged = c .before .before .before in (
       simp (sym (judged .before .listed .ensures), le-ltb _ _ (judged .if1 .left), c .free2 .ensures),

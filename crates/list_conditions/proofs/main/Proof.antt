@@ -3,13 +3,13 @@ use Prim.Native.Nat.{_-_}
 use mathlib.Core.Path.{_≡_, subst⁻¹}
 use lib.ListN.{length}
 use borrow.Author.Needs.{needs}
-use Rattle.lister.specs.Pieces.{Made, made, taken}
+use Rattle.lister.specs.Pieces.{MadeByPieces, madeBegun, takenPiece}
 use Rattle.listing_room.specs.Rooms.{linesRoom}
 use Rattle.list_conditions.proofs.main.Statement.{statement}
 use Rattle.list_conditions.proofs.main.Tie as tie
 
 abbrev Inv-loop : tie.InvT-loop
-Inv-loop lister₀ out₀ pieces₀ lister out pieces = Made lister × (length out ≡ linesRoom)
+Inv-loop lister₀ out₀ pieces₀ lister out pieces = MadeByPieces lister × (length out ≡ linesRoom)
 
 abbrev μ-loop : tie.MeasureT-loop
 μ-loop lister₀ out₀ pieces₀ lister out pieces = 18446744073709551615 - pieces
@@ -21,7 +21,7 @@ show-header-requires : tie.Need-show-header-requires Inv-loop μ-loop
 show-header-requires c κs = search needs
 
 loop-holds : tie.Need-loop-holds Inv-loop μ-loop
-loop-holds c = (subst⁻¹ Made (c .before .begun .ensures) made, search needs)
+loop-holds c = (subst⁻¹ MadeByPieces (c .before .begun .ensures) madeBegun, search needs)
 
 add-pieces : tie.Need-add-pieces Inv-loop μ-loop
 add-pieces c = search needs
@@ -45,7 +45,7 @@ show-piece-requires : tie.Need-show-piece-requires Inv-loop μ-loop
 show-piece-requires c κs = search needs
 
 show-end-requires : tie.Need-show-end-requires Inv-loop μ-loop
-show-end-requires c κs = subst⁻¹ Made (c .before .before .show-piece .ensures) (taken (c .before .before .before .before .before .before .before .before .before .loop .inv .0) _)
+show-end-requires c κs = subst⁻¹ MadeByPieces (c .before .before .show-piece .ensures) (takenPiece (c .before .before .before .before .before .before .before .before .before .loop .inv .0) _)
 
 returns : tie.Need-returns Inv-loop μ-loop
 returns c = search needs
@@ -54,7 +54,7 @@ loop-less : tie.Need-loop-less Inv-loop μ-loop
 loop-less c = search needs
 
 loop-again : tie.Need-loop-again Inv-loop μ-loop
-loop-again c = (subst⁻¹ Made (c .before .before .show-piece .ensures) (taken (c .before .before .before .before .before .before .before .before .before .loop .inv .0) _), search needs)
+loop-again c = (subst⁻¹ MadeByPieces (c .before .before .show-piece .ensures) (takenPiece (c .before .before .before .before .before .before .before .before .before .loop .inv .0) _), search needs)
 
 returns-2 : tie.Need-returns-2 Inv-loop μ-loop
 returns-2 c = search needs

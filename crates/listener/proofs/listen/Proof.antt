@@ -5,7 +5,7 @@ use mathlib.Core.Path.{_≡_, refl, sym, ap, ap₂, subst, _∙_}
 use lib.ListN.{length}
 use Rattle.telegram.specs.Telegrams.{packetIn, stepIn}
 use Rattle.telegram.proofs.Rows.{read-length}
-use Rattle.memory.specs.Memory.{room}
+use Rattle.memory.specs.Memory.{memorySize}
 use Rattle.hand.specs.Lent.{handIn}
 use Rattle.hand.specs.Sets.{setFor, isHeld}
 use Rattle.last_step.specs.LastSteps.{isLast}
@@ -62,7 +62,7 @@ returns-2 c =
     sym (ap₂ isLast (last .last-in .ensures) (step .step-in .ensures)) ∙ (sym (tested .before .is-last .ensures) ∙ tested .if1 .left) in
     let held : isHeld (setFor (handIn memory) (stepIn telegram)) (packetIn telegram) ≡ true =
     sym (ap₂ (λ s p. isHeld (setFor (handIn memory) s) p) (step .step-in .ensures) (packet .packet-in .ensures .0)) ∙ (sym (find .find-or-begin .ensures .0) ∙ c .if2 .taken) in
-    let long : length memory ≡ room = search needs in
+    let long : length memory ≡ memorySize = search needs in
     left-found memory telegram whole small long later _ (find .find-or-begin .ensures .1 ∙ ap (memoryFor memory) (step .step-in .ensures)) held
 
 add-requires : tie.Need-add-requires
@@ -84,7 +84,7 @@ returns-3 c =
     sym (ap₂ isLast (last .last-in .ensures) (step .step-in .ensures)) ∙ (sym (tested .before .is-last .ensures) ∙ tested .if1 .left) in
     let free : isHeld (setFor (handIn memory) (stepIn telegram)) (packetIn telegram) ≡ false =
     sym (ap₂ (λ s p. isHeld (setFor (handIn memory) s) p) (step .step-in .ensures) (packet .packet-in .ensures .0)) ∙ (sym (find .find-or-begin .ensures .0) ∙ c .before .before .if2 .left) in
-    let long : length memory ≡ room = search needs in
+    let long : length memory ≡ memorySize = search needs in
     left-joined memory telegram whole small long later _ (find .find-or-begin .ensures .1 ∙ ap (memoryFor memory) (step .step-in .ensures)) free
     (record { told = toldOf (c .add .result); memory = c .add .last .0 }) (c .add .ensures)
 

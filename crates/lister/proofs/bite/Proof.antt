@@ -7,17 +7,17 @@ use native.Mathlib.Omega.{arith}
 use Rattle.kit.specs.Put.{Poured}
 use Rattle.kit.proofs.Put.{poured-as}
 use Rattle.lister.specs.Hearings.{linesFor}
-use Rattle.lister.specs.Pieces.{padded, keeping, takeOf, linesOf, Made}
+use Rattle.lister.specs.Pieces.{padded, keeping, takeOf, pieceLines, MadeByPieces}
 use Rattle.lister.specs.declared.Lister.{Lister}
 use Rattle.lister.proofs.Kept.{state, made-kept, filled, filled-to, filled-whole, take-part, lines-part, take-one, lines-one}
 use borrow.Author.Needs.{needs}
 use Rattle.lister.proofs.bite.Statement.{statement}
 use Rattle.lister.proofs.bite.Tie as tie
 
-module _ {lister : Lister} (m : Made lister) {piece after : List ℕ} {next : ℕ} (room : lister .kept + length piece ≤ 26) (p : Poured (lister .tail) (lister .kept) piece after next)
+module _ {lister : Lister} (m : MadeByPieces lister) {piece after : List ℕ} {next : ℕ} (room : lister .kept + length piece ≤ 26) (p : Poured (lister .tail) (lister .kept) piece after next)
     {before out : List ℕ} {at to : ℕ} where
   whole : 26 ≤ next → {r : Lister} → r ≡ keeping lister (after ∷ []) [] → Poured before at (linesFor (lister .listener) (after ∷ [])) out to
-      → (r ≡ takeOf lister piece) × Poured before at (linesOf lister piece) out to
+      → (r ≡ takeOf lister piece) × Poured before at (pieceLines lister piece) out to
   whole full same put =
       let kept = made-kept m .1 in
       let (is, long) = filled-whole kept room p full in (
@@ -25,7 +25,7 @@ module _ {lister : Lister} (m : Made lister) {piece after : List ℕ} {next : �
         poured-as (lines-one kept piece long ∙ ap (λ (x : List ℕ). linesFor (lister .listener) (x ∷ [])) (sym is)) put,
       )
 
-  part : next < 26 → Poured before at [] out to → (state (lister .listener) (lister .tables) after next ≡ takeOf lister piece) × Poured before at (linesOf lister piece) out to
+  part : next < 26 → Poured before at [] out to → (state (lister .listener) (lister .tables) after next ≡ takeOf lister piece) × Poured before at (pieceLines lister piece) out to
   part few put =
       let kept = made-kept m .1 in
       let to-here = filled-to kept room p in

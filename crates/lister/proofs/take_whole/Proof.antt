@@ -11,7 +11,7 @@ use Rattle.kit.specs.Put.{Poured}
 use Rattle.kit.proofs.Put.{poured-as, poured-here, poured-then, poured-length}
 use Rattle.listener.specs.Lent.{listenerIn}
 use Rattle.listener.proofs.Back.{Sized, means-back}
-use Rattle.lister.specs.Pieces.{takeOf, linesOf}
+use Rattle.lister.specs.Pieces.{takeOf, pieceLines}
 use Rattle.lister.specs.declared.Lister.{Lister}
 use Rattle.lister.proofs.Kept.{Kept, state, made-kept, take-none, lines-none}
 use Rattle.lister.proofs.Phases.{here, again, lines-again, none-begun, whole-taken, whole-lines}
@@ -32,7 +32,7 @@ Inv-loop lister bytes listing₀ at tail memory₀ tables₀ next₀ from₀ lis
     (from ≤ length bytes)
     × (from ≡ from / 26 * 26)
     × (state (listenerIn memory) tables (lister .tail) (lister .kept) ≡ takeOf lister (take from bytes))
-    × Poured listing₀ next₀ (linesOf lister (take from bytes)) listing next
+    × Poured listing₀ next₀ (pieceLines lister (take from bytes)) listing next
 
 abbrev μ-loop : tie.MeasureT-loop
 μ-loop lister bytes listing₀ at tail memory₀ tables₀ next₀ from₀ listing memory tables next from = length bytes - from
@@ -120,7 +120,7 @@ returns c =
     let lister = start .args .lister in
     let all = take-all (l .from) (start .args .bytes .now) (search needs) in (
       ap (λ x. state x (l .tables) (lister .tail) (lister .kept)) (c .listener-in .ensures) ∙ (l .inv .2 ∙ ap (takeOf lister) all),
-      poured-then (c .before .before .before .before .before .before .put-words .ensures) (poured-as (ap (linesOf lister) (sym all)) (l .inv .3)),
+      poured-then (c .before .before .before .before .before .before .put-words .ensures) (poured-as (ap (pieceLines lister) (sym all)) (l .inv .3)),
     )
 
 pub take-whole-spec : {M : Type 1} → statement M

@@ -5,7 +5,7 @@ use mathlib.Core.List.{List, _++_}
 use lib.ListN.{length}
 use Rattle.kit.proofs.Put.{poured-as, poured-then}
 use Rattle.listing_lines.specs.Lines.{headerLine}
-use Rattle.lister.specs.Pieces.{mostTables, begun, takeOf, linesOf, Made, made}
+use Rattle.lister.specs.Pieces.{mostTables, begunLister, takeOf, pieceLines, MadeByPieces, madeBegun}
 use Rattle.listing.specs.Listings.{listing, endOf}
 use Rattle.lister.specs.declared.Lister.{Lister}
 use Rattle.listing.proofs.Whole.{in-one}
@@ -13,12 +13,12 @@ use borrow.Author.Needs.{needs}
 use Rattle.listing.proofs.list.Statement.{statement}
 use Rattle.listing.proofs.list.Tie as tie
 
-listing-of : (recording : List ℕ) → length recording ≤ mostTables → {first last : Lister} → first ≡ begun → last ≡ takeOf first recording
-    → listing recording ≡ headerLine ++ (linesOf first recording ++ endOf last)
+listing-of : (recording : List ℕ) → length recording ≤ mostTables → {first last : Lister} → first ≡ begunLister → last ≡ takeOf first recording
+    → listing recording ≡ headerLine ++ (pieceLines first recording ++ endOf last)
 listing-of recording room {first} begins ends =
     sym (in-one recording room)
-    ∙ (ap (λ (s : Lister). headerLine ++ (linesOf s recording ++ endOf (takeOf s recording))) (sym begins)
-    ∙ ap (λ (s : Lister). headerLine ++ (linesOf first recording ++ endOf s)) (sym ends))
+    ∙ (ap (λ (s : Lister). headerLine ++ (pieceLines s recording ++ endOf (takeOf s recording))) (sym begins)
+    ∙ ap (λ (s : Lister). headerLine ++ (pieceLines first recording ++ endOf s)) (sym ends))
 
 begun-requires : tie.Need-begun-requires
 begun-requires c κs = search needs
@@ -27,7 +27,7 @@ put-header-requires : tie.Need-put-header-requires
 put-header-requires c κs = search needs
 
 take-requires : tie.Need-take-requires
-take-requires c κs = subst⁻¹ Made (c .before .before .before .before .before .begun .ensures) made
+take-requires c κs = subst⁻¹ MadeByPieces (c .before .before .before .before .before .begun .ensures) madeBegun
 
 finish-requires : tie.Need-finish-requires
 finish-requires c κs = search needs

@@ -1,20 +1,20 @@
 -- `same`: texts of two lengths differ; of one length, where a byte does.
 use mathlib.Core.Path.{sym}
 use borrow.Author.Tests.{eq-eqb, ne-eqb}
-use Rattle.listing_reader.specs.Fixed.{isSame}
+use Rattle.listing_reader.specs.Fixed.{isSameText}
 use borrow.Author.Needs.{needs}
 use Rattle.listing_reader.proofs.same.Statement.{statement}
 use Rattle.listing_reader.proofs.same.Tie as tie
 
 returns : tie.Need-returns
-unfolding isSame
+unfolding isSameText
 returns c = simp (ne-eqb _ _ (c .if1 .taken))
 
 differs-requires : tie.Need-differs-requires
 differs-requires c κs = search needs
 
 returns-2 : tie.Need-returns-2
-unfolding isSame
+unfolding isSameText
 returns-2 c = simp (eq-eqb _ _ (c .before .if1 .left), sym (c .differs .ensures))
 
 pub same-spec : {M : Type 1} → statement M

@@ -1,7 +1,7 @@
 -- `look_up`: the loop marks one of the others after another.
 use Prim.Native.Nat.{_-_, _<_}
 use native.Mathlib.Omega.{arith}
-use Rattle.condition.specs.Slots.{slots}
+use Rattle.condition.specs.Slots.{slotCount}
 use Rattle.marks.specs.Lent.{Sorted, Seen}
 use Rattle.marks.proofs.Sorting.{sorted-next, sorted-all}
 use borrow.Author.Needs.{needs}
@@ -9,7 +9,7 @@ use Rattle.marks.proofs.look_up.Statement.{statement}
 use Rattle.marks.proofs.look_up.Tie as tie
 
 abbrev Inv-loop : tie.InvT-loop
-Inv-loop memory others count marks₀ seen k₀ marks k = Sorted memory slots k count others marks × Seen memory slots seen
+Inv-loop memory others count marks₀ seen k₀ marks k = Sorted memory slotCount k count others marks × Seen memory slotCount seen
 
 abbrev μ-loop : tie.MeasureT-loop
 μ-loop memory others count marks₀ seen k₀ marks k = count - k

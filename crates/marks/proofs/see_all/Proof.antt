@@ -2,7 +2,7 @@
 use Prim.Native.Nat.{ℕ, _-_, _≤_}
 use mathlib.Core.Path.{_≡_, subst}
 use native.Mathlib.Omega.{arith}
-use Rattle.condition.specs.Slots.{slots}
+use Rattle.condition.specs.Slots.{slotCount}
 use Rattle.marks.specs.Lent.{Seen}
 use Rattle.marks.proofs.Seeing.{seen-none, seen-more}
 use borrow.Author.Needs.{needs}
@@ -10,10 +10,10 @@ use Rattle.marks.proofs.see_all.Statement.{statement}
 use Rattle.marks.proofs.see_all.Tie as tie
 
 abbrev Inv-loop : tie.InvT-loop
-Inv-loop memory seen₀ k₀ seen k = (k ≤ slots) × Seen memory k seen
+Inv-loop memory seen₀ k₀ seen k = (k ≤ slotCount) × Seen memory k seen
 
 abbrev μ-loop : tie.MeasureT-loop
-μ-loop memory seen₀ k₀ seen k = slots - k
+μ-loop memory seen₀ k₀ seen k = slotCount - k
 
 loop-holds : tie.Need-loop-holds Inv-loop μ-loop
 loop-holds c = (search needs, seen-none (c .args .memory .now) (c .args .seen .now) (c .pre))
@@ -46,8 +46,8 @@ returns : tie.Need-returns Inv-loop μ-loop
 returns c =
     let l = c .before .loop in
     let memory = c .before .before .args .memory .now in
-    let past : slots ≤ l .k = search needs in
-    let all : l .k ≡ slots = omega (arith, l .inv .0) in
+    let past : slotCount ≤ l .k = search needs in
+    let all : l .k ≡ slotCount = omega (arith, l .inv .0) in
     subst (λ (n : ℕ). Seen memory n (l .seen)) all (l .inv .1)
 
 pub see-all-spec : {M : Type 1} → statement M

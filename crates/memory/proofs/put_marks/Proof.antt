@@ -8,17 +8,17 @@ use native.Mathlib.Omega.{arith}
 use Rattle.kit.specs.Put.{Put}
 use Rattle.kit.proofs.Put.{put-next, put-all}
 use Rattle.kit.proofs.Maps.{map-at}
-use Rattle.condition.specs.Slots.{slots}
+use Rattle.condition.specs.Slots.{slotCount}
 use Rattle.memory.specs.Memory.{marksFrom, flagByte, withMarks}
 use borrow.Author.Needs.{needs}
 use Rattle.memory.proofs.put_marks.Statement.{statement}
 use Rattle.memory.proofs.put_marks.Tie as tie
 
 abbrev Inv-loop : tie.InvT-loop
-Inv-loop memory₀ marks i₀ memory i = (i ≤ slots) × Put memory₀ marksFrom (take i (map flagByte marks)) memory (marksFrom + i)
+Inv-loop memory₀ marks i₀ memory i = (i ≤ slotCount) × Put memory₀ marksFrom (take i (map flagByte marks)) memory (marksFrom + i)
 
 abbrev μ-loop : tie.MeasureT-loop
-μ-loop memory₀ marks i₀ memory i = slots - i
+μ-loop memory₀ marks i₀ memory i = slotCount - i
 
 loop-holds : tie.Need-loop-holds Inv-loop μ-loop
 loop-holds c = (search needs, record { stored = refl; past = refl })
@@ -45,7 +45,7 @@ loop-again : tie.Need-loop-again Inv-loop μ-loop
 loop-again c =
     let l = c .before .loop in
     let marks = c .before .before .before .before .args .t2 in
-    let all : length marks ≡ slots = search needs in
+    let all : length marks ≡ slotCount = search needs in
     (search needs, put-next (map flagByte marks) marksFrom (l .i) (omega (arith, all, length-map marks flagByte)) (sym (map-at flagByte marks (l .i) false 0 (omega (arith, all)))) (l .inv .1))
 
 returns : tie.Need-returns Inv-loop μ-loop
@@ -53,8 +53,8 @@ unfolding withMarks
 returns c =
     let l = c .before .loop in
     let a = c .before .before .before .before .args in
-    let all : length (a .t2) ≡ slots = search needs in
-    let past : slots ≤ l .i = search needs in
+    let all : length (a .t2) ≡ slotCount = search needs in
+    let past : slotCount ≤ l .i = search needs in
     put-all (map flagByte (a .t2)) (l .i) (omega (arith, length-map (a .t2) flagByte)) (l .inv .1)
 
 pub put-marks-spec : {M : Type 1} → statement M

@@ -3,7 +3,7 @@ use mathlib.Core.Path.{_≡_, sym}
 use lib.ListN.{length}
 use native.Mathlib.Omega.{arith}
 use Rattle.kit.proofs.Stores.{sets-past}
-use Rattle.memory.specs.Memory.{room, setFrom, slotPlace, slotBytes, withSlot}
+use Rattle.memory.specs.Memory.{memorySize, setFrom, slotPlace, slotBytes, withSlot}
 use borrow.Author.Needs.{needs}
 use Rattle.memory.proofs.put_slot.Statement.{statement}
 use Rattle.memory.proofs.put_slot.Tie as tie
@@ -25,7 +25,7 @@ returns-2 : tie.Need-returns-2
 unfolding withSlot
 returns-2 c =
     let a = c .before .before .before .args in
-    let long : length (a .memory .now) ≡ room = search needs in
+    let long : length (a .memory .now) ≡ memorySize = search needs in
     sym (sets-past (slotBytes (a .slot)) (a .memory .now) (slotPlace setFrom (a .i)) (omega (arith, c .if1 .left, long)))
 
 pub put-slot-spec : {M : Type 1} → statement M

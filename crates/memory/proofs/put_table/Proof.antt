@@ -7,7 +7,7 @@ use native.Mathlib.Omega.{arith}
 use Rattle.kit.specs.Each.{each}
 use Rattle.kit.specs.Put.{Put}
 use Rattle.kit.proofs.Put.{put-each}
-use Rattle.condition.specs.Slots.{slots}
+use Rattle.condition.specs.Slots.{slotCount}
 use Rattle.condition.specs.declared.slots.Slot.{Slot}
 use Rattle.telegram.specs.Tables.{tableSlot}
 use Rattle.memory.specs.Memory.{slotPlace, slotBytes, tableBytes}
@@ -21,10 +21,10 @@ abbrev bytes : List Slot → ℕ → List ℕ
 bytes table i = slotBytes (tableSlot table i)
 
 abbrev Inv-loop : tie.InvT-loop
-Inv-loop memory₀ from table i₀ memory i = (i ≤ slots) × Put memory₀ from (each (bytes table) 0 i) memory (slotPlace from i)
+Inv-loop memory₀ from table i₀ memory i = (i ≤ slotCount) × Put memory₀ from (each (bytes table) 0 i) memory (slotPlace from i)
 
 abbrev μ-loop : tie.MeasureT-loop
-μ-loop memory₀ from table i₀ memory i = slots - i
+μ-loop memory₀ from table i₀ memory i = slotCount - i
 
 loop-holds : tie.Need-loop-holds Inv-loop μ-loop
 unfolding each
@@ -63,8 +63,8 @@ unfolding tableBytes
 returns c =
     let l = c .before .loop in
     let a = c .before .before .args in
-    let past : slots ≤ l .i = search needs in
-    let all : l .i ≡ slots = omega (arith, l .inv .0, past) in
+    let past : slotCount ≤ l .i = search needs in
+    let all : l .i ≡ slotCount = omega (arith, l .inv .0, past) in
     l .inv .1 .stored ∙ ap (λ (n : ℕ). sets (a .memory .now) (a .from) (each (bytes (a .t3)) 0 n)) all
 
 pub put-table-spec : {M : Type 1} → statement M

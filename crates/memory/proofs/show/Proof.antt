@@ -9,13 +9,13 @@ use native.Mathlib.Omega.{arith}
 use Rattle.kit.proofs.Put.{put-next, put-all}
 use Rattle.kit.proofs.Stores.{sets-out}
 use Rattle.kit.specs.Put.{Put}
-use Rattle.memory.specs.Memory.{room, setFrom, withPicture}
+use Rattle.memory.specs.Memory.{memorySize, setFrom, withPicture}
 use borrow.Author.Needs.{needs}
 use Rattle.memory.proofs.show.Statement.{statement}
 use Rattle.memory.proofs.show.Tie as tie
 
 -- the next byte is read from behind what was put
-next-byte : (before memory : List ℕ) (k : ℕ) → k < 140 → length before ≡ room → Put before 0 (take k (drop setFrom before)) memory (0 + k)
+next-byte : (before memory : List ℕ) (k : ℕ) → k < 140 → length before ≡ memorySize → Put before 0 (take k (drop setFrom before)) memory (0 + k)
     → getD memory (setFrom + k) 0 ≡ getD (drop setFrom before) k 0
 next-byte before memory k p long so-far =
     let few : length (take k (drop setFrom before)) ≡ k = length-take-le k (drop setFrom before) (omega (arith, length-drop setFrom before)) in
@@ -23,7 +23,7 @@ next-byte before memory k p long so-far =
     ∙ (sets-out 0 (take k (drop setFrom before)) before 0 (setFrom + k) (inr (omega (arith, few))) ∙ sym (getD-drop setFrom before k 0))
 
 abbrev Inv-loop : tie.InvT-loop
-Inv-loop memory₀ k₀ memory k = (k ≤ 140) × (length memory₀ ≡ room) × Put memory₀ 0 (take k (drop setFrom memory₀)) memory (0 + k)
+Inv-loop memory₀ k₀ memory k = (k ≤ 140) × (length memory₀ ≡ memorySize) × Put memory₀ 0 (take k (drop setFrom memory₀)) memory (0 + k)
 
 abbrev μ-loop : tie.MeasureT-loop
 μ-loop memory₀ k₀ memory k = 140 - k

@@ -2,7 +2,7 @@
 use Prim.Native.Nat.{_+_}
 use mathlib.Core.Path.{ap, ap₂, _∙_}
 use lib.ListN.{getD}
-use Rattle.memory.specs.Memory.{bodyFrom, slotAt}
+use Rattle.memory.specs.Memory.{bodyFrom, storedSlot}
 use borrow.Author.Needs.{needs}
 use Rattle.memory.proofs.slot_at.Statement.{statement}
 use Rattle.memory.proofs.slot_at.Tie as tie
@@ -56,7 +56,7 @@ body-of-requires : tie.Need-body-of-requires
 body-of-requires c κs = search needs
 
 returns : tie.Need-returns
-unfolding slotAt
+unfolding storedSlot
 returns c =
     let second = c .before .before .before .before in
     let first = second .before .before .before in

@@ -4,7 +4,7 @@ use mathlib.Core.Path.{sym, _∙_}
 use native.Mathlib.Omega.{arith}
 use Rattle.kit.specs.Fill.{Filled}
 use Rattle.kit.proofs.Fill.{filled-none, filled-more, filled-all}
-use Rattle.condition.specs.Slots.{emptySlot, slots}
+use Rattle.condition.specs.Slots.{emptySlot, slotCount}
 use Rattle.memory.specs.Memory.{tableAt}
 use Rattle.memory.proofs.Slots.{slot-in, length-table}
 use borrow.Author.Needs.{needs}
@@ -12,10 +12,10 @@ use Rattle.memory.proofs.table_at.Statement.{statement}
 use Rattle.memory.proofs.table_at.Tie as tie
 
 abbrev Inv-loop : tie.InvT-loop
-Inv-loop memory from table₀ i₀ table i = (i ≤ slots) × Filled emptySlot (tableAt memory from) i table
+Inv-loop memory from table₀ i₀ table i = (i ≤ slotCount) × Filled emptySlot (tableAt memory from) i table
 
 abbrev μ-loop : tie.MeasureT-loop
-μ-loop memory from table₀ i₀ table i = slots - i
+μ-loop memory from table₀ i₀ table i = slotCount - i
 
 empty-requires : tie.Need-empty-requires Inv-loop μ-loop
 empty-requires c κs = search needs
@@ -49,14 +49,14 @@ loop-again c =
     let l = c .before .before .loop in
     let a = c .before .before .before .before .args in
     let memory = a .memory .now in
-    let p : l .i < slots = search needs in
+    let p : l .i < slotCount = search needs in
     (search needs, filled-more (omega (arith, length-table memory (a .from))) (l .inv .1) (c .slot-at .ensures ∙ sym (slot-in memory (a .from) (l .i) p)))
 
 returns : tie.Need-returns Inv-loop μ-loop
 returns c =
     let l = c .before .loop in
     let a = c .before .before .before .args in
-    let past : slots ≤ l .i = search needs in
+    let past : slotCount ≤ l .i = search needs in
     filled-all (omega (arith, length-table (a .memory .now) (a .from))) (l .inv .1)
 
 pub table-at-spec : {M : Type 1} → statement M

@@ -9,7 +9,7 @@ use native.Mathlib.Omega.{arith}
 use borrow.Author.Needs.{needs}
 use borrow.Author.Tests.{lt-ltb, le-ltb}
 use Rattle.kit.proofs.Maps.{map-at}
-use Rattle.condition.specs.Slots.{codedOf, slots}
+use Rattle.condition.specs.Slots.{codedOf, slotCount}
 use Rattle.order_list.specs.Lists.{foundAt}
 use Rattle.order_list.specs.declared.Order.{Order}
 use Rattle.places.specs.Places.{freePlace, ordersOf, placeOf}
@@ -21,20 +21,20 @@ use Rattle.orders.proofs.is_retyped.Tie as tie
 
 -- by the orders and the types of the places
 module _ (live types : List ℕ) (order : Order) (at : ℕ) (found : at ≡ foundAt live (order .number)) (places : List Place)
-    (twenty : length places ≡ slots) (e : live ≡ ordersOf places) (f : types ≡ typesOf places) where
+    (twenty : length places ≡ slotCount) (e : live ≡ ordersOf places) (f : types ≡ typesOf places) where
   placed : placeOf places (order .number) ≡ at
   placed = sym (found ∙ (ap (λ (l : List ℕ). foundAt l (order .number)) e ∙ found-live places (order .number) twenty))
 
-  typed : at < slots → getD types at 0 ≡ codedOf (getD places at freePlace .slot) .kind
+  typed : at < slotCount → getD types at 0 ≡ codedOf (getD places at freePlace .slot) .kind
   typed p = ap (λ (l : List ℕ). getD l at 0) f ∙ map-at (λ (place : Place). codedOf (place .slot) .kind) places at freePlace 0 (omega (arith, twenty))
 
-  judged : at < slots → not (eqb (getD types at 0) (order .kind)) ≡ isRetyped places order
+  judged : at < slotCount → not (eqb (getD types at 0) (order .kind)) ≡ isRetyped places order
   unfolding isRetyped
-  judged p = rw (placed, lt-ltb at slots p, typed p) refl
+  judged p = rw (placed, lt-ltb at slotCount p, typed p) refl
 
-  unplaced : slots ≤ at → false ≡ isRetyped places order
+  unplaced : slotCount ≤ at → false ≡ isRetyped places order
   unfolding isRetyped
-  unplaced p = rw (placed, le-ltb at slots p) refl
+  unplaced p = rw (placed, le-ltb at slotCount p) refl
 
 found-at-requires : tie.Need-found-at-requires
 found-at-requires c κs = search needs

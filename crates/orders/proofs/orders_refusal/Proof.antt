@@ -7,10 +7,10 @@ use native.Mathlib.Nat.{sub-zero}
 use borrow.Author.Needs.{needs}
 use Rattle.kit.specs.Each.{each}
 use Rattle.kit.specs.Ladder.{ladder}
-use Rattle.kit.specs.Loops.{first}
+use Rattle.kit.specs.Loops.{firstNonzero}
 use Rattle.kit.proofs.Ladder.{ladder-each}
 use Rattle.kit.proofs.Loops.{first-go, first-hit, scan-end}
-use Rattle.condition.specs.Slots.{slots}
+use Rattle.condition.specs.Slots.{slotCount}
 use Rattle.orders.specs.Orders.{OfPlaces, orderRows}
 use Rattle.places.specs.declared.Place.{Place}
 use Rattle.orders.proofs.Rows.{order-numbered}
@@ -22,7 +22,7 @@ judged places list j = ladder 0 (orderRows places list j)
 
 -- what is left to judge from order j on, of any places whose orders and types are at hand
 abbrev Left : List ℕ → ℕ → ℕ → List Place → Type 0
-Left list n j places = ladder 0 (each (orderRows places list) 0 n) ≡ first (judged places list) j (n - j)
+Left list n j places = ladder 0 (each (orderRows places list) 0 n) ≡ firstNonzero (judged places list) j (n - j)
 
 abbrev Inv-loop : tie.InvT-loop
 Inv-loop list n live types numbers j₀ j = (j ≤ n) × OfPlaces live types (Left list n j)
@@ -56,7 +56,7 @@ returns c =
     let typed = c .before .before .before .before .before .before .before .before in
     let start = typed .before .before .before in
     let a = start .args in
-    let twenty : length (a .places) ≡ slots = start .good .0 .1 .0 .1 in
+    let twenty : length (a .places) ≡ slotCount = start .good .0 .1 .0 .1 in
     let e = c .before .order-refusal .ensures (a .places) twenty (typed .before .orders-of .ensures) (typed .types-of .ensures) in
     e
     ∙ sym
@@ -85,7 +85,7 @@ returns-2 c =
     let typed = c .before .before .before in
     let start = typed .before .before .before in
     let a = start .args in
-    let twenty : length (a .places) ≡ slots = start .good .0 .1 .0 .1 in
+    let twenty : length (a .places) ≡ slotCount = start .good .0 .1 .0 .1 in
     sym (l .inv .1 (a .places) twenty (typed .before .orders-of .ensures) (typed .types-of .ensures) ∙ scan-end _ _ _ (a .n) (l .j) (search needs))
 
 pub orders-refusal-spec : {M : Type 1} → statement M

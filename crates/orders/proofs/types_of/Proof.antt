@@ -6,7 +6,7 @@ use native.Mathlib.Omega.{arith}
 use borrow.Author.Needs.{needs}
 use Rattle.kit.specs.Fill.{Filled}
 use Rattle.kit.proofs.Fill.{mapped-none, mapped-more, mapped-all}
-use Rattle.condition.specs.Slots.{codedOf, slots}
+use Rattle.condition.specs.Slots.{codedOf, slotCount}
 use Rattle.condition.specs.declared.slots.Coded.{Coded}
 use Rattle.places.specs.Places.{freePlace}
 use Rattle.places.specs.declared.Place.{Place}
@@ -18,14 +18,14 @@ abbrev kind : Place → ℕ
 kind place = codedOf (place .slot) .kind
 
 abbrev Inv-loop : tie.InvT-loop
-Inv-loop places types₀ i₀ types i = (i ≤ slots) × Filled 0 (typesOf places) i types
+Inv-loop places types₀ i₀ types i = (i ≤ slotCount) × Filled 0 (typesOf places) i types
 
 abbrev μ-loop : tie.MeasureT-loop
-μ-loop places types₀ i₀ types i = slots - i
+μ-loop places types₀ i₀ types i = slotCount - i
 
 loop-holds : tie.Need-loop-holds Inv-loop μ-loop
 loop-holds c =
-    let twenty : length (c .args .t1) ≡ slots = c .good .0 .1 .0 .1 in
+    let twenty : length (c .args .t1) ≡ slotCount = c .good .0 .1 .0 .1 in
     (search needs, mapped-none kind (c .args .t1) (sym twenty))
 
 mul-place : tie.Need-mul-place Inv-loop μ-loop
@@ -50,16 +50,16 @@ loop-again : tie.Need-loop-again Inv-loop μ-loop
 loop-again c =
     let l = c .before .before .before .loop in
     let start = c .before .before .before .before in
-    let twenty : length (start .args .t1) ≡ slots = start .good .0 .1 .0 .1 in
-    let p : l .i < slots = search needs in
+    let twenty : length (start .args .t1) ≡ slotCount = start .good .0 .1 .0 .1 in
+    let p : l .i < slotCount = search needs in
     (search needs, mapped-more kind (start .args .t1) freePlace (omega (arith, twenty)) (l .inv .1) (ap (λ (x : Coded). x .kind) (c .coded-of .ensures)))
 
 returns : tie.Need-returns Inv-loop μ-loop
 returns c =
     let l = c .before .loop in
     let start = c .before .before in
-    let twenty : length (start .args .t1) ≡ slots = start .good .0 .1 .0 .1 in
-    let past : slots ≤ l .i = search needs in
+    let twenty : length (start .args .t1) ≡ slotCount = start .good .0 .1 .0 .1 in
+    let past : slotCount ≤ l .i = search needs in
     mapped-all kind (start .args .t1) (omega (arith, twenty)) (l .inv .1)
 
 pub types-of-spec : {M : Type 1} → statement M

@@ -5,7 +5,7 @@ use mathlib.Core.List.{List}
 use native.Mathlib.Omega.{arith}
 use lib.ListN.{length, take, drop, getD}
 use borrow.Author.Needs.{needs}
-use Rattle.page.specs.Packed.{Small, none, made}
+use Rattle.page.specs.Packed.{Small, noneSmall, numberMade}
 use Rattle.page.proofs.Packed.{packed-none, packed-more, small-more, packed-fits}
 use Rattle.page.proofs.piece_of.Statement.{statement}
 use Rattle.page.proofs.piece_of.Tie as tie
@@ -15,7 +15,7 @@ abbrev left : List ℕ → ℕ → ℕ → List ℕ
 left words from i = drop (i - from) (take 8 (drop from words))
 
 abbrev Inv-loop : tie.InvT-loop
-Inv-loop words from piece₀ i₀ piece i = (i ≤ min (length words) (from + 8)) × (piece ≡ made (left words from i)) × Small (left words from i)
+Inv-loop words from piece₀ i₀ piece i = (i ≤ min (length words) (from + 8)) × (piece ≡ numberMade (left words from i)) × Small (left words from i)
 
 abbrev μ-loop : tie.MeasureT-loop
 μ-loop words from piece₀ i₀ piece i = i
@@ -27,12 +27,12 @@ at-most-requires : tie.Need-at-most-requires Inv-loop μ-loop
 at-most-requires c κs = search needs
 
 loop-holds : tie.Need-loop-holds Inv-loop μ-loop
-unfolding made
+unfolding numberMade
 loop-holds c =
     let start = c .before .before in
     let words = start .args .words .now in
     let nothing = packed-none words (start .args .from) (c .at-most .result) (c .at-most .ensures) in
-    (omega (arith, c .at-most .ensures), sym (ap made nothing), subst Small (sym nothing) none)
+    (omega (arith, c .at-most .ensures), sym (ap numberMade nothing), subst Small (sym nothing) noneSmall)
 
 sub-i : tie.Need-sub-i Inv-loop μ-loop
 sub-i c = search needs
@@ -76,7 +76,7 @@ returns c =
     let l = c .before .loop in
     let all : l .i - start .args .from ≡ 0 = omega arith in
     let whole = ap (λ n. drop n (take 8 (drop (start .args .from) (start .args .words .now)))) all in
-    (l .inv .1 ∙ ap made whole, subst Small whole (l .inv .2))
+    (l .inv .1 ∙ ap numberMade whole, subst Small whole (l .inv .2))
 
 pub piece-of-spec : {M : Type 1} → statement M
 piece-of-spec =

@@ -2,7 +2,7 @@
 use mathlib.Core.Path.{_≡_, sym, ap}
 use native.Mathlib.Omega.{arith}
 use lib.ListN.{take}
-use Rattle.page.specs.Packed.{lowBytes, made}
+use Rattle.page.specs.Packed.{lowBytes, numberMade}
 use Rattle.page.proofs.Packed.{packed-first}
 use Rattle.page.proofs.Pages.{laid-as}
 use borrow.Author.Needs.{needs}
@@ -27,7 +27,7 @@ returns c =
     let piece = c .before .before .before .before .piece-of in
     let count = c .before .before .before .at-most in
     let put : take 8 words ≡ lowBytes (count .result) (piece .result) = rw (count .ensures, piece .ensures .0) (packed-first words (piece .ensures .1)) in
-    let stored : lowBytes 8 (made (take 8 words)) ≡ lowBytes 8 (piece .result) = ap (lowBytes 8) (sym (piece .ensures .0)) in
+    let stored : lowBytes 8 (numberMade (take 8 words)) ≡ lowBytes 8 (piece .result) = ap (lowBytes 8) (sym (piece .ensures .0)) in
     laid-as put stored (omega (arith, count .ensures)) (c .before .before .put-piece .ensures)
 
 pub put-short-text-spec : {M : Type 1} → statement M

@@ -6,7 +6,7 @@ use native.Mathlib.Omega.{arith}
 use lib.ListN.{length, take, length-append}
 use borrow.Author.Tests.{leb-true}
 use Rattle.page.specs.Packed.{lowBytes}
-use Rattle.page.specs.Words.{wordBytes}
+use Rattle.page.specs.Words.{bytesOfWord}
 use Rattle.page.proofs.Pages.{paged-as, paged-most, paged-stored, sets-twice, take-min, laid-room, laid-full}
 use Rattle.page.proofs.Packed.{low-length}
 use borrow.Author.Needs.{needs}
@@ -35,7 +35,7 @@ same-length : tie.Need-same-length
 same-length c = search needs
 
 returns : tie.Need-returns
-unfolding wordBytes
+unfolding bytesOfWord
 returns c =
     let start = c .before .before .before .before .before .before .before .before .before .before .before .before in
     let page = start .args .page .now in

@@ -4,7 +4,7 @@ use mathlib.Core.Path.{_≡_, sym, _∙_}
 use borrow.Author.Needs.{needs}
 use Rattle.kit.specs.Loops.{any}
 use Rattle.kit.proofs.Loops.{scan-go, scan-hit, scan-end}
-use Rattle.condition.specs.Slots.{slots}
+use Rattle.condition.specs.Slots.{slotCount}
 use Rattle.picture.specs.Pictures.{isTwice, clashes}
 use Rattle.memory.specs.Memory.{setIn}
 use Rattle.picture.proofs.Lent.{numberAt, Seen, seen-none, seen-more, twice-flag}
@@ -12,10 +12,10 @@ use Rattle.picture.proofs.clashes.Statement.{statement}
 use Rattle.picture.proofs.clashes.Tie as tie
 
 abbrev Inv-loop : tie.InvT-loop
-Inv-loop memory seen₀ i₀ seen i = (i ≤ slots) × (clashes (setIn memory) ≡ any (isTwice (setIn memory)) i (slots - i)) × Seen memory i seen
+Inv-loop memory seen₀ i₀ seen i = (i ≤ slotCount) × (clashes (setIn memory) ≡ any (isTwice (setIn memory)) i (slotCount - i)) × Seen memory i seen
 
 abbrev μ-loop : tie.MeasureT-loop
-μ-loop memory seen₀ i₀ seen i = slots - i
+μ-loop memory seen₀ i₀ seen i = slotCount - i
 
 loop-holds : tie.Need-loop-holds Inv-loop μ-loop
 unfolding clashes
@@ -49,11 +49,11 @@ returns : tie.Need-returns Inv-loop μ-loop
 returns c =
     let l = c .before .before .before .before .before .before in
     let memory = l .before .args .memory .now in
-    let p : l .loop .i < slots = search needs in
+    let p : l .loop .i < slotCount = search needs in
     let small : numberAt memory (l .loop .i) < 256 = c .before .is-seen .ensures .1 in
     sym
     (l .loop .inv .1
-    ∙ scan-hit (isTwice (setIn memory)) _ _ slots (l .loop .i) p
+    ∙ scan-hit (isTwice (setIn memory)) _ _ slotCount (l .loop .i) p
     (twice-flag memory (l .loop .i) (l .loop .seen) small (l .loop .inv .2) p ∙ (sym (c .before .is-seen .ensures .0) ∙ c .if1 .taken)))
 
 see-requires : tie.Need-see-requires Inv-loop μ-loop
@@ -69,17 +69,17 @@ loop-again : tie.Need-loop-again Inv-loop μ-loop
 loop-again c =
     let l = c .before .before .before .before .before .before .before .before in
     let memory = l .before .args .memory .now in
-    let p : l .loop .i < slots = search needs in
+    let p : l .loop .i < slotCount = search needs in
     let small : numberAt memory (l .loop .i) < 256 = c .before .before .before .is-seen .ensures .1 in (
       search needs,
       l .loop .inv .1
-          ∙ scan-go (isTwice (setIn memory)) _ _ slots (l .loop .i) p
+          ∙ scan-go (isTwice (setIn memory)) _ _ slotCount (l .loop .i) p
           (twice-flag memory (l .loop .i) (l .loop .seen) small (l .loop .inv .2) p ∙ (sym (c .before .before .before .is-seen .ensures .0) ∙ c .before .before .if1 .left)),
       seen-more memory (l .loop .i) (l .loop .seen) small (l .loop .inv .2) _ (c .see .ensures),
     )
 
 returns-2 : tie.Need-returns-2 Inv-loop μ-loop
-returns-2 c = let l = c .before .loop in sym (l .inv .1 ∙ scan-end _ _ _ slots (l .i) (search needs))
+returns-2 c = let l = c .before .loop in sym (l .inv .1 ∙ scan-end _ _ _ slotCount (l .i) (search needs))
 
 pub clashes-spec : {M : Type 1} → statement M
 clashes-spec =

@@ -4,21 +4,21 @@ use mathlib.Core.List.{List}
 use mathlib.Core.Path.{_≡_, sym, ap, _∙_}
 use native.Mathlib.Omega.{arith}
 use borrow.Author.Needs.{needs}
-use Rattle.kit.specs.Loops.{count}
+use Rattle.kit.specs.Loops.{howMany}
 use Rattle.kit.proofs.Loops.{count-turn, count-none, count-most}
-use Rattle.condition.specs.Slots.{slots}
+use Rattle.condition.specs.Slots.{slotCount}
 use Rattle.picture.proofs.Lent.{holds, count-bytes}
 use Rattle.picture.proofs.count_of.Statement.{statement}
 use Rattle.picture.proofs.count_of.Tie as tie
 
 abbrev countTo : List ℕ → ℕ → ℕ
-countTo memory n = count (holds memory) n
+countTo memory n = howMany (holds memory) n
 
 abbrev Inv-loop : tie.InvT-loop
-Inv-loop memory count₀ i₀ count i = (i ≤ slots) × (count ≡ countTo memory i) × (count ≤ i)
+Inv-loop memory count₀ i₀ howMany i = (i ≤ slotCount) × (howMany ≡ countTo memory i) × (howMany ≤ i)
 
 abbrev μ-loop : tie.MeasureT-loop
-μ-loop memory count₀ i₀ count i = slots - i
+μ-loop memory count₀ i₀ howMany i = slotCount - i
 
 loop-holds : tie.Need-loop-holds Inv-loop μ-loop
 loop-holds c = (search needs, sym (count-none (holds (c .args .memory .now))), search needs)
@@ -55,8 +55,8 @@ returns : tie.Need-returns Inv-loop μ-loop
 returns c =
     let l = c .before .loop in
     let memory = c .before .before .args .memory .now in
-    let past : slots ≤ l .i = search needs in
-    let all : l .i ≡ slots = omega (arith, l .inv .0) in
+    let past : slotCount ≤ l .i = search needs in
+    let all : l .i ≡ slotCount = omega (arith, l .inv .0) in
     l .inv .1 ∙ (ap (countTo memory) all ∙ sym (count-bytes memory))
 
 pub count-of-spec : {M : Type 1} → statement M

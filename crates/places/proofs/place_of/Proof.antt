@@ -4,7 +4,7 @@ use mathlib.Core.List.{List}
 use Prim.Native.Nat.{ℕ}
 use lib.ListN.{length}
 use borrow.Author.Needs.{needs}
-use Rattle.condition.specs.Slots.{slots}
+use Rattle.condition.specs.Slots.{slotCount}
 use Rattle.order_list.specs.Lists.{foundAt}
 use Rattle.places.proofs.Live.{found-live}
 use Rattle.places.proofs.place_of.Statement.{statement}
@@ -19,7 +19,7 @@ found-at-requires c κs = search needs
 returns : tie.Need-returns
 returns c =
     let start = c .before .before .before in
-    let twenty : length (start .args .places) ≡ slots = start .good .0 .1 .0 .1 in
+    let twenty : length (start .args .places) ≡ slotCount = start .good .0 .1 .0 .1 in
     c .found-at .ensures
     ∙ (ap (λ (l : List ℕ). foundAt l (start .args .order)) (c .before .before .orders-of .ensures) ∙ found-live (start .args .places) (start .args .order) twenty)
 

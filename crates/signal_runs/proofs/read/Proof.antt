@@ -9,13 +9,13 @@ use borrow.Author.Needs.{needs}
 use Rattle.kit.proofs.Put.{poured-length}
 use Rattle.frames.proofs.Splitting.{size-bounds}
 use Rattle.frames.proofs.Pouring.{Pouring, pouring-start, pouring-more, pouring-end, pouring-last, pouring-as, pouring-length}
-use Rattle.signal_runs.specs.Runs.{noTelegram, linesWith, linesOf}
+use Rattle.signal_runs.specs.Runs.{noTelegram, signalLinesWith, signalLines}
 use Rattle.signal_runs.proofs.Lines.{lines-more, lines-short, lines-end}
 use Rattle.signal_runs.proofs.read.Statement.{statement}
 use Rattle.signal_runs.proofs.read.Tie as tie
 
 abbrev Inv-loop : tie.InvT-loop
-Inv-loop input lines₀ signals₀ rest₀ at₀ lines signals rest at = Pouring lines₀ (linesOf input) lines at (linesWith signals rest)
+Inv-loop input lines₀ signals₀ rest₀ at₀ lines signals rest at = Pouring lines₀ (signalLines input) lines at (signalLinesWith signals rest)
 
 abbrev μ-loop : tie.MeasureT-loop
 μ-loop input lines₀ signals₀ rest₀ at₀ lines signals rest at = length rest
@@ -24,8 +24,8 @@ fresh-requires : tie.Need-fresh-requires Inv-loop μ-loop
 fresh-requires c κs = search needs
 
 loop-holds : tie.Need-loop-holds Inv-loop μ-loop
-unfolding linesOf
-loop-holds c = pouring-as (ap (λ s. linesWith s (c .before .before .before .args .input .now)) (sym (c .fresh .ensures))) pouring-start
+unfolding signalLines
+loop-holds c = pouring-as (ap (λ s. signalLinesWith s (c .before .before .before .args .input .now)) (sym (c .fresh .ensures))) pouring-start
 
 cast-call-size : tie.Need-cast-call-size Inv-loop μ-loop
 cast-call-size c = search needs
@@ -81,7 +81,7 @@ loop-again c =
     let told = c .before .before .before .before .tell in
     let rest : List ℕ = l .rest .now in
     let bytes : List ℕ = take (size .result - 2) (drop 2 rest) in
-    pouring-as (ap₂ linesWith (sym (told .ensures .0)) (sym (part-to-end rest (size .result))))
+    pouring-as (ap₂ signalLinesWith (sym (told .ensures .0)) (sym (part-to-end rest (size .result))))
     (pouring-more (pouring-as (lines-more (l .signals) rest (size .result) (size .ensures) (word .result, bytes) (search needs) (ap (λ w. (w, bytes)) (sym (word .ensures)))) (l .inv)) (told .ensures .1))
 
 same-length-2 : tie.Need-same-length-2 Inv-loop μ-loop

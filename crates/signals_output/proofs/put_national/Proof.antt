@@ -6,13 +6,13 @@ use lib.ListN.{length}
 use Rattle.kit.specs.Each.{each}
 use Rattle.page.specs.Pages.{Paged}
 use Rattle.page.proofs.Pages.{paged-none, paged-as, paged-most, paged-each}
-use Rattle.signals_output.specs.Lines.{systemWord}
+use Rattle.signals_output.specs.Lines.{nationalWord}
 use borrow.Author.Needs.{needs}
 use Rattle.signals_output.proofs.put_national.Statement.{statement}
 use Rattle.signals_output.proofs.put_national.Tie as tie
 
 abbrev Inv-loop : tie.InvT-loop
-Inv-loop page₀ at national next₀ i₀ page next i = (i ≤ 16) × (length page ≡ length page₀) × Paged (16 * i) page₀ next₀ (each (systemWord national) 0 i) page next
+Inv-loop page₀ at national next₀ i₀ page next i = (i ≤ 16) × (length page ≡ length page₀) × Paged (16 * i) page₀ next₀ (each (nationalWord national) 0 i) page next
 
 abbrev μ-loop : tie.MeasureT-loop
 μ-loop page₀ at national next₀ i₀ page next i = 16 - i
@@ -36,7 +36,7 @@ loop-less c = search needs
 loop-again : tie.Need-loop-again Inv-loop μ-loop
 loop-again c =
     let l = c .before .before .before .before .before .before in
-    (search needs, search needs, paged-each (systemWord (l .before .before .args .t1)) (l .loop .i) (omega arith) (l .loop .inv .2) (c .before .before .put-isolation .ensures))
+    (search needs, search needs, paged-each (nationalWord (l .before .before .args .t1)) (l .loop .i) (omega arith) (l .loop .inv .2) (c .before .before .put-isolation .ensures))
 
 same-length : tie.Need-same-length Inv-loop μ-loop
 same-length c = search needs
@@ -45,7 +45,7 @@ returns : tie.Need-returns Inv-loop μ-loop
 returns c =
     let l = c .before in
     let all : l .loop .i ≡ 16 = search needs in
-    paged-as (ap (each (systemWord (l .before .before .args .t1)) 0) (sym all)) (paged-most (omega arith) (l .loop .inv .2))
+    paged-as (ap (each (nationalWord (l .before .before .args .t1)) 0) (sym all)) (paged-most (omega arith) (l .loop .inv .2))
 
 pub put-national-spec : {M : Type 1} → statement M
 put-national-spec =

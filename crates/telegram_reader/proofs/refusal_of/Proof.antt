@@ -5,7 +5,7 @@ use mathlib.Core.Path.{_≡_, sym, _∙_}
 use borrow.Author.Needs.{needs}
 use borrow.Author.Tests.{eq-eqb, ne-eqb, lt-ltb, le-ltb}
 use Rattle.kit.specs.Ladder.{ladder}
-use Rattle.kit.specs.Loops.{first}
+use Rattle.kit.specs.Loops.{firstNonzero}
 use Rattle.kit.proofs.Ladder.{ladder-each}
 use Rattle.kit.proofs.Loops.{first-go, first-hit, scan-end}
 use Rattle.telegram.specs.Telegrams.{placeRows, readRows}
@@ -17,7 +17,7 @@ abbrev judged : List ℕ → ℕ → ℕ
 judged bytes k = ladder 0 (placeRows bytes k)
 
 abbrev Inv-loop : tie.InvT-loop
-Inv-loop bytes k₀ k = (k ≤ 4) × (ladder 0 (readRows bytes) ≡ first (judged bytes) k (4 - k))
+Inv-loop bytes k₀ k = (k ≤ 4) × (ladder 0 (readRows bytes) ≡ firstNonzero (judged bytes) k (4 - k))
 
 abbrev μ-loop : tie.MeasureT-loop
 μ-loop bytes k₀ k = 4 - k

@@ -7,13 +7,13 @@ use lib.Dec.{eqb}
 use lib.ListN.{getD}
 use Rattle.kit.specs.Loops.{any}
 use Rattle.kit.proofs.Loops.{scan-go, scan-hit, scan-end}
-use Rattle.telegram.specs.Telegrams.{takenBefore, place}
+use Rattle.telegram.specs.Telegrams.{takenBefore, placeStart}
 use borrow.Author.Needs.{needs}
 use Rattle.telegram_reader.proofs.taken_before.Statement.{statement}
 use Rattle.telegram_reader.proofs.taken_before.Tie as tie
 
 abbrev Inv-loop : tie.InvT-loop
-Inv-loop bytes k number j₀ j = (j ≤ k) × (takenBefore bytes k number ≡ any (λ i. eqb (getD bytes (place i) 0) number) j (k - j))
+Inv-loop bytes k number j₀ j = (j ≤ k) × (takenBefore bytes k number ≡ any (λ i. eqb (getD bytes (placeStart i) 0) number) j (k - j))
 
 abbrev μ-loop : tie.MeasureT-loop
 μ-loop bytes k number j₀ j = k - j

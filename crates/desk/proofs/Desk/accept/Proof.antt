@@ -16,7 +16,7 @@ use Rattle.arriving.specs.Arriving.{seatedAll}
 use Rattle.arriving.specs.declared.Seats.{Seats}
 use Rattle.desk.specs.declared.Answer.{Answer}
 use Rattle.desk.specs.declared.Desk.{Desk}
-use Rattle.desk.specs.Desks.{rest, acceptOf}
+use Rattle.desk.specs.Desks.{baseRest, acceptOf}
 use Rattle.desk.specs.Steps.{nextStep, stepOf}
 use Rattle.desk.proofs.Making.{accepts, refuses, made-sound}
 use Rattle.desk.proofs.Desk.accept.Statement.{statement}
@@ -29,16 +29,16 @@ abbrev accepted : Desk → Answer
 accepted next = record { verdict = Accepted; desk = next }
 
 module _ (desk : Desk) (list : List ℕ) (refusal : ℕ) (e : refusal ≡ listRefusal (desk .places) list) where
-  refusing : (refusal ≡ 0 → ⊥) → refused desk refusal ≡ acceptOf rest desk list
-  refusing n = rw e (sym (refuses rest desk list (λ z. n (e ∙ z))))
+  refusing : (refusal ≡ 0 → ⊥) → refused desk refusal ≡ acceptOf baseRest desk list
+  refusing n = rw e (sym (refuses baseRest desk list (λ z. n (e ∙ z))))
 
-  accepting : (next : Desk) → refusal ≡ 0 → next ≡ stepOf rest desk list → accepted next ≡ acceptOf rest desk list
-  accepting next z s = rw s (sym (accepts rest desk list (sym e ∙ z)))
+  accepting : (next : Desk) → refusal ≡ 0 → next ≡ stepOf baseRest desk list → accepted next ≡ acceptOf baseRest desk list
+  accepting next z s = rw s (sym (accepts baseRest desk list (sym e ∙ z)))
 
 stepped : (desk : Desk) (list : List ℕ) (left : Remains) (seats : Seats)
     → left ≡ remainsOf list (orderCount list) (nextStep (desk .step)) (desk .places) (desk .ended)
-    → seats ≡ seatedAll (isResting rest (nextStep (desk .step)) (left .ended)) list (record { places = left .places; last = desk .last }) (orderCount list)
-    → record { places = seats .places; ended = left .ended; last = seats .last; step = nextStep (desk .step) } ≡ stepOf rest desk list
+    → seats ≡ seatedAll (isResting baseRest (nextStep (desk .step)) (left .ended)) list (record { places = left .places; last = desk .last }) (orderCount list)
+    → record { places = seats .places; ended = left .ended; last = seats .last; step = nextStep (desk .step) } ≡ stepOf baseRest desk list
 unfolding stepOf remainsOf
 stepped desk list left seats e s = rw (s, e) refl
 

@@ -2,7 +2,7 @@
 use mathlib.Core.Path.{sym}
 use mathlib.Core.List.{[], _∷_, _++_, append-assoc}
 use Rattle.text.specs.Words.{blank}
-use Rattle.listing_words.specs.Words.{distanceWord}
+use Rattle.listing_words.specs.Words.{distanceText}
 use Rattle.listing_seconds.specs.Seconds.{secondWord}
 use Rattle.page.proofs.Pages.{paged-as, paged-then}
 use borrow.Author.Needs.{needs}
@@ -21,7 +21,7 @@ same-length c = search needs
 returns : tie.Need-returns
 returns c =
     let start = c .before .before .before .before .before .before .before .before .before in
-    paged-as (sym (append-assoc (distanceWord (start .args .first)) (blank ∷ []) (secondWord (start .args .body) ++ (blank ∷ []))))
+    paged-as (sym (append-assoc (distanceText (start .args .first)) (blank ∷ []) (secondWord (start .args .body) ++ (blank ∷ []))))
     (paged-then (c .before .before .before .before .before .before .put-distance .ensures) (c .before .before .put-second .ensures))
 
 pub put-both-spec : {M : Type 1} → statement M

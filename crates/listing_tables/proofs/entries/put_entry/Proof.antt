@@ -5,7 +5,7 @@ use native.Mathlib.Omega.{arith}
 use borrow.Author.Tests.{not-true, not-false}
 use Rattle.condition.specs.declared.slots.Coded.{Coded}
 use Rattle.text.specs.Words.{blank}
-use Rattle.listing_words.specs.Words.{distanceWord}
+use Rattle.listing_words.specs.Words.{distanceText}
 use Rattle.listing_seconds.specs.Seconds.{secondWord}
 use Rattle.listing_entries.specs.Entries.{entryWords}
 use Rattle.listing_entries.proofs.Entries.{entry-empty, entry-occupied}
@@ -48,7 +48,7 @@ returns-2 c =
     (paged-then
     (paged-as (numbers-then (start .args .place) (start .args .slot) (coded .result) (start .pre .0) (coded .ensures)) (c .before .before .before .before .before .before .before .before .before .before .put-numbers .ensures))
     (paged-then
-    (paged-as (ap (λ (as-coded : Coded). distanceWord (as-coded .first) ++ ((blank ∷ []) ++ (secondWord (start .args .slot .body) ++ (blank ∷ [])))) (sym (coded .ensures))) (c .before .before .before .before .before .before .put-both .ensures))
+    (paged-as (ap (λ (as-coded : Coded). distanceText (as-coded .first) ++ ((blank ∷ []) ++ (secondWord (start .args .slot .body) ++ (blank ∷ [])))) (sym (coded .ensures))) (c .before .before .before .before .before .before .put-both .ensures))
     (c .before .before .put-mark .ensures)))
 
 pub put-entry-spec : {M : Type 1} → statement M

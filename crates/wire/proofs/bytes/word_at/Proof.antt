@@ -1,7 +1,7 @@
 -- `word_at`: past the end of the slice it is 0.
 use lib.ListN.{getD}
 use mathlib.Core.Path.{sym, ap, _∙_}
-use Rattle.kit.specs.Bytes.{word}
+use Rattle.kit.specs.Bytes.{wordOfTwo}
 use Rattle.kit.proofs.Bytes.{word-past}
 use borrow.Author.Needs.{needs}
 use Rattle.wire.proofs.bytes.word_at.Statement.{statement}
@@ -20,7 +20,7 @@ word-requires : tie.Need-word-requires
 word-requires c κs = search needs
 
 returns : tie.Need-returns
-returns c = c .word .ensures ∙ ap (word (getD (c .before .before .before .before .before .args .list .now) (c .before .before .before .before .before .args .i) 0)) (c .before .byte-at .ensures)
+returns c = c .word .ensures ∙ ap (wordOfTwo (getD (c .before .before .before .before .before .args .list .now) (c .before .before .before .before .before .args .i) 0)) (c .before .byte-at .ensures)
 
 returns-2 : tie.Need-returns-2
 returns-2 c = sym (word-past (c .before .before .args .list .now) (c .before .before .args .i) (c .if1 .left))
