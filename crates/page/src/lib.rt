@@ -8,6 +8,7 @@ ghost use lib.Dec.{leb};
 ghost use lib.ListN.{length, take, drop};
 ghost use lib.Seq.{sets};
 ghost use Prim.Native.Nat.{_+_, _*_, _/_, _%_, _<_, _≤_, min};
+ghost use Rattle.kit.specs.Text.{ascii};
 ghost use Rattle.text.specs.Decimals.{decimal};
 ghost use Rattle.text.specs.Hexadecimals.{hexDigit, hexadecimal};
 ghost use Rattle.page.specs.Words.{bytesOfWord, packedWord};
@@ -90,7 +91,7 @@ fn last_four(n: u64) -> u64
 
 // A number in decimal, and a byte after it where it is wanted.
 fn put_digits(page: &mut [u8], at: usize, number: u16, after: u8, wanted: bool) -> usize
-    ensures { λ r. ⌜ Laid 8 (cond wanted 6 5) (now (page .entry)) at (decimal number ++ cond wanted (after ∷ []) []) (lowBytes 8 (numberMade (decimal number ++ (after ∷ 48 ∷ 48 ∷ [])))) (now (page .exit)) r ⌝ }
+    ensures { λ r. ⌜ Laid 8 (cond wanted 6 5) (now (page .entry)) at (decimal number ++ cond wanted (after ∷ []) []) (lowBytes 8 (numberMade (decimal number ++ (after ∷ ascii "00")))) (now (page .exit)) r ⌝ }
 {
     let n = number as u64;
     let eight = (48 + n / 10000)
@@ -108,14 +109,14 @@ fn put_digits(page: &mut [u8], at: usize, number: u16, after: u8, wanted: bool) 
 
 // A number in decimal, and a byte after it.
 pub fn put_number(page: &mut [u8], at: usize, number: u16, after: u8) -> usize
-    ensures { λ r. ⌜ Laid 8 6 (now (page .entry)) at (decimal number ++ (after ∷ [])) (lowBytes 8 (numberMade (decimal number ++ (after ∷ 48 ∷ 48 ∷ [])))) (now (page .exit)) r ⌝ }
+    ensures { λ r. ⌜ Laid 8 6 (now (page .entry)) at (decimal number ++ (after ∷ [])) (lowBytes 8 (numberMade (decimal number ++ (after ∷ ascii "00")))) (now (page .exit)) r ⌝ }
 {
     put_digits(page, at, number, after, true)
 }
 
 // The same of a number that has most often one digit: that case is quicker here, and every other one slower.
 pub fn put_short_number(page: &mut [u8], at: usize, number: u8, after: u8) -> usize
-    ensures { λ r. ⌜ Laid 8 4 (now (page .entry)) at (decimal number ++ (after ∷ [])) (lowBytes 8 (numberMade (decimal number ++ (after ∷ 48 ∷ 48 ∷ [])))) (now (page .exit)) r ⌝ }
+    ensures { λ r. ⌜ Laid 8 4 (now (page .entry)) at (decimal number ++ (after ∷ [])) (lowBytes 8 (numberMade (decimal number ++ (after ∷ ascii "00")))) (now (page .exit)) r ⌝ }
 {
     if number < 10 {
         return put_piece(
@@ -130,7 +131,7 @@ pub fn put_short_number(page: &mut [u8], at: usize, number: u8, after: u8) -> us
 
 // A number in decimal, and nothing after it.
 pub fn put_bare_number(page: &mut [u8], at: usize, number: u16) -> usize
-    ensures { λ r. ⌜ Laid 8 5 (now (page .entry)) at (decimal number) (lowBytes 8 (numberMade (decimal number ++ (48 ∷ 48 ∷ 48 ∷ [])))) (now (page .exit)) r ⌝ }
+    ensures { λ r. ⌜ Laid 8 5 (now (page .entry)) at (decimal number) (lowBytes 8 (numberMade (decimal number ++ ascii "000"))) (now (page .exit)) r ⌝ }
 {
     put_digits(page, at, number, 48, false)
 }

@@ -26,11 +26,11 @@ decimal n = digits n n
 -- A-35: the number that digits say, read from the left, after those that said `so-far`
 abbrev pub valueFrom : ℕ → List ℕ → ℕ
 valueFrom so-far [] = so-far
-valueFrom so-far (byte ∷ more) = valueFrom (so-far * 10 + (byte - 48)) more
+valueFrom so-far (byte ∷ more) = valueFrom (so-far * 10 + (byte - code "0")) more
 
 -- A-35: a text is a number in decimal: digits in ASCII that say the number, and the first is a zero only where it is the only one
 pub record IsDecimal (number : ℕ) (text : List ℕ) : Type 0 where
   pub some : 1 ≤ length text
-  pub ascii : (i : ℕ) → i < length text → (48 ≤ getD text i 0) × (getD text i 0 ≤ 57)
+  pub digits-only : (i : ℕ) → i < length text → (code "0" ≤ getD text i 0) × (getD text i 0 ≤ code "9")
   pub value : valueFrom 0 text ≡ number
-  pub leading : 2 ≤ length text → 49 ≤ getD text 0 0
+  pub leading : 2 ≤ length text → code "1" ≤ getD text 0 0
