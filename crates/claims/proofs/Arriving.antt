@@ -28,7 +28,7 @@ use Rattle.desk.proofs.Resting.{resting-exactly}
 use Rattle.desk.proofs.Seating.{inside, ordered}
 use Rattle.desk.proofs.Stepping.{Sound, next-orderly}
 use Rattle.desk.proofs.Tracing.{run-sound}
-use Rattle.claims.specs.Step.{HasSlot, Live, numberIn, Present, IsNew, TakenAtTurn, NumberRests, PermittedAtTurn, LastGiven, earlier, passing, giving, Between, NewOrder}
+use Rattle.claims.specs.Step.{HasSlot, Live, numberIn, Present, IsNew, TakenAtTurn, NumberRests, PermittedAtTurn, LastGiven, none-yet, passing, giving, Between, NewOrder}
 
 -- ---- the page's words and the tests of the definitions
 
@@ -157,7 +157,7 @@ module _ (lists : List (List ℕ)) (good : AllAccepted eight eight lists) (list 
   last-at : (j : ℕ) → j ≤ orderCount list → LastGiven before list after j (lastAt j)
   last-at zero p =
       subst (λ n. LastGiven before list after 0 n)
-      (sym (ap (λ s. s .last) (new-orders.begins eight eight (omega arith) (omega arith) before sound list listed))) earlier
+      (sym (ap (λ s. s .last) (new-orders.begins eight eight (omega arith) (omega arith) before sound list listed))) none-yet
   last-at (suc j) p =
       let e : j + 1 ≡ suc j = omega arith in
       let inlist : j < orderCount list = omega arith in

@@ -31,7 +31,7 @@ use Rattle.hand.proofs.Gathering.{Gathered, gathered-none, gathered-as, gathere
 use Rattle.listener.proofs.Hearing.{hear-refused, hear-as, heard-last, heard-copy, heard-part, heard-taken, fresh-picture, fresh-last, fresh-hand, taken-picture, taken-last, taken-marks, taken-hand}
 use Rattle.claims.specs.Calls.{stepsMade, tableIn}
 use Rattle.claims.specs.Hearings.{Item, sent, spoilt, wasHeard, heardWhole, wholes, firstOr, NoneAfter, newestOr, farthest, Near}
-use Rattle.claims.specs.Ends.{Binding, messageOf, listenerAfter, Sent, Premises, nothing, next, late, damaged, pictureOf, lastOf, trueGap, PutRight, expected, Answered}
+use Rattle.claims.specs.Ends.{Binding, messageOf, listenerAfter, Sent, Premises, nothing, in-turn, late, damaged, pictureOf, lastOf, trueGap, PutRight, expected, Answered}
 use Rattle.claims.proofs.Sequences.{heard-here, heard-other, heard-above, whole-same, part-before, nothing-whole, heard-spoilt, wholes-spoilt, whole-spoilt, whole-old, whole-other, whole-apart, whole-below, packet-heard, wholes-old, wholes-part, wholes-new, newest-whole, first-below}
 
 -- two steps less than 8,192 apart have different step numbers
@@ -253,7 +253,7 @@ module _ (rest limit : ℕ) {Message : Type 0} (binding : Binding Message) (call
   -- no table heard whole is later than the newest of them
   newest-is : (r : List (Item Message)) → Premises rest limit binding calls r → (n : ℕ) → heardWhole r n ≡ true → (m : ℕ) × (before : List ℕ) × (wholes r ≡ m ∷ before) × (n ≤ m)
   newest-is r nothing n w = absurd (clash w (nothing-whole Message n))
-  newest-is r (next {earlier} k p h s after bound) n w =
+  newest-is r (in-turn {earlier} k p h s after bound) n w =
       on (heardWhole earlier k)
       (λ old. given (newest-is earlier h n (whole-old k p earlier n old w)) (λ (m, before, is, le). (m, before, wholes-old k p earlier old ∙ is, le)))
       (λ part.
@@ -281,7 +281,7 @@ module _ (rest limit : ℕ) {Message : Type 0} (binding : Binding Message) (call
   pub falling : (r : List (Item Message)) → Premises rest limit binding calls r → Falling (wholes r)
   unfolding wholes
   falling r nothing = tt
-  falling r (next {earlier} n p h s after bound) =
+  falling r (in-turn {earlier} n p h s after bound) =
       on (heardWhole earlier n)
       (λ old. subst Falling (sym (wholes-old n p earlier old)) (falling earlier h))
       (λ part.
@@ -334,7 +334,7 @@ module _ (rest limit : ℕ) {Message : Type 0} (binding : Binding Message) (call
     following : (r : List (Item Message)) → Premises rest limit binding calls r → Following r
     unfolding listenerAfter wholes wasHeard Follows
     following r nothing = (record { shown = record { picture = fresh-picture; last = fresh-last; marks = refl }; hand = idle fresh-hand (λ n after part q. refl) }, tt)
-    following r (next {earlier} n p h s after bound) =
+    following r (in-turn {earlier} n p h s after bound) =
         subst (Follows (sent n p) earlier) (sym (heard-as (listenerAfter rest limit binding calls earlier) n p s)) (follow-next (listenerAfter rest limit binding calls earlier) n p earlier h s after bound (following earlier h .0))
     following r (late {earlier} n p before h s newest) =
         subst (Follows (sent n p) earlier) (sym (heard-as (listenerAfter rest limit binding calls earlier) n p s)) (follow-late (listenerAfter rest limit binding calls earlier) n p earlier before s newest (following earlier h .0))
@@ -355,12 +355,12 @@ module _ (rest limit : ℕ) {Message : Type 0} (binding : Binding Message) (call
 
     pub right : (r : List (Item Message)) → Premises rest limit binding calls r → PutRight rest limit binding calls r
     right r nothing = tt
-    right r (next {earlier} n p h s after bound) =
+    right r (in-turn {earlier} n p h s after bound) =
         λ w.
-        given (newest-is (sent n p ∷ earlier) (next n p h s after bound) n w)
+        given (newest-is (sent n p ∷ earlier) (in-turn n p h s after bound) n w)
         (λ (m, before, is, le).
         let same : m ≡ n = omega (arith, whole-below m n (sent n p ∷ earlier) (omega arith, after) (newest-whole (sent n p ∷ earlier) m before is)) in
-        shown-newest (sent n p ∷ earlier) (next n p h s after bound) n before (is ∙ ap (λ k. k ∷ before) same))
+        shown-newest (sent n p ∷ earlier) (in-turn n p h s after bound) n before (is ∙ ap (λ k. k ∷ before) same))
     right r (late {earlier} n p before h s newest) =
         λ w. shown-newest (sent n p ∷ earlier) (late n p before h s newest) n before (wholes-old n p earlier (newest-whole earlier n before newest) ∙ newest)
     right r (damaged {earlier} other number h e) = tt

@@ -12,7 +12,7 @@ use Rattle.telegram.specs.declared.Telegram.{Telegram}
 use Rattle.desk.specs.Desks.{packetOf}
 use Rattle.claims.specs.Calls.{stepsMade, deskOf}
 use Rattle.claims.specs.Hearings.{Item, sent, spoilt, wasHeard, wholes, firstOr, NoneAfter, newestOr, farthest}
-use Rattle.claims.specs.Ends.{Binding, Premises, nothing, next}
+use Rattle.claims.specs.Ends.{Binding, Premises, nothing, in-turn}
 use Rattle.claims.specs.Regular.{fiveOf, wholly, Spaced}
 use Rattle.claims.proofs.Sequences.{heard-here, heard-above, whole-known, wholes-part, wholes-new}
 
@@ -40,7 +40,7 @@ module _ (rest limit : ℕ) {Message : Type 0} (binding : Binding Message) (call
 
   module _ {n : ℕ} {whole : List ℕ} {packet : ℕ → Bool} {r : List (Item Message)} (part : Part n whole packet r) (made : n ≤ stepsMade rest calls) (p : ℕ) (low : 3 ≤ p) (high : p ≤ 7) where
     heard-next : Premises rest limit binding calls (sent n p ∷ r)
-    heard-next = next n p (part .premises) (made, low, high, all (packetOf (deskOf rest calls n) p)) (part .after) (rw (part .same) (part .bound))
+    heard-next = in-turn n p (part .premises) (made, low, high, all (packetOf (deskOf rest calls n) p)) (part .after) (rw (part .same) (part .bound))
 
     known-next : (q : ℕ) → wasHeard (sent n p ∷ r) n q ≡ also p packet q
     known-next q = heard-here n p r q ∙ ap (λ t. eqb q p || t) (part .known q)

@@ -18,7 +18,7 @@ use Rattle.resting.specs.Rests.{isResting}
 use Rattle.wire.specs.Steps.{steps}
 use Rattle.desk.specs.Desks.{baseRest as eight}
 use Rattle.desk.specs.declared.Desk.{Desk}
-use Rattle.claims.specs.Step.{HasSlot, Live, numberIn, Present, IsNew, TakenAtTurn, LastGiven, earlier, passing, giving, Between, NewOrder, OneStep, Alike}
+use Rattle.claims.specs.Step.{HasSlot, Live, numberIn, Present, IsNew, TakenAtTurn, LastGiven, none-yet, passing, giving, Between, NewOrder, OneStep, Alike}
 use Rattle.claims.proofs.Arriving.{live-test, test-live}
 
 -- of two different numbers one lies between the last one given and the other
@@ -68,7 +68,7 @@ module _ (lists : List (List ℕ)) (before : Desk) (list : List ℕ) where
     last-same = go j agree
       where
         go : (j : ℕ) → Agree one other j → {a b : ℕ} → LastGiven before list one j a → LastGiven before list other j b → a ≡ b
-        go j agree earlier earlier = refl
+        go j agree none-yet none-yet = refl
         go (suc j) agree (passing l live) (passing k live-too) = go j (λ m p. agree m (omega arith)) l k
         go (suc j) agree (passing l live) (giving k (p, unlive) has) = absurd (unlive live)
         go (suc j) agree (giving i (p, unlive) has) (passing k live) = absurd (unlive live)

@@ -63,7 +63,7 @@ module _ (rest limit : ℕ) {Message : Type 0} (binding : Binding Message) (call
   -- `damaged` allow more than the user does: repeats of the last whole table at any later time, and anywhere what the reader refuses.
   pub data Premises : List (Item Message) → Type 0 where
     nothing : Premises []
-    next : {earlier : List (Item Message)} (n p : ℕ) → Premises earlier → Sent n p → NoneAfter n earlier → Near n earlier → Premises (sent n p ∷ earlier)
+    in-turn : {earlier : List (Item Message)} (n p : ℕ) → Premises earlier → Sent n p → NoneAfter n earlier → Near n earlier → Premises (sent n p ∷ earlier)
     late : {earlier : List (Item Message)} (n p : ℕ) (before : List ℕ) → Premises earlier → Sent n p → wholes earlier ≡ n ∷ before
         → Premises (sent n p ∷ earlier)
     damaged : {earlier : List (Item Message)} (other : Message) (number : ℕ) → Premises earlier → binding .read other .verdict ≡ Refused number

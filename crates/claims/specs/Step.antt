@@ -75,7 +75,7 @@ PermittedAtTurn lists before list after j number =
 -- D-09: the last number given when order j has its turn: that of the nearest new order before it in the list; where there is none, the last
 -- one given before this step
 pub data LastGiven (before : Desk) (list : List ℕ) (after : Desk) : ℕ → ℕ → Type 0 where
-  earlier : LastGiven before list after zero (before .last)
+  none-yet : LastGiven before list after zero (before .last)
   passing : {j last : ℕ} → LastGiven before list after j last → Live before (orderAt list j .number) → LastGiven before list after (suc j) last
   giving : {j : ℕ} (i : ℕ) → IsNew before list j → HasSlot after (orderAt list j .number) i → LastGiven before list after (suc j) (numberIn after i)
 

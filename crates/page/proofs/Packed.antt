@@ -15,7 +15,7 @@ use Rattle.kit.proofs.Cases.{on}
 use Rattle.text.specs.Decimals.{digit, decimal}
 use Rattle.text.specs.Hexadecimals.{hexDigit, hexadecimal}
 use Rattle.text.proofs.Numerals.{decimal-one, decimal-more, decimal-byte}
-use Rattle.page.specs.Packed.{Small, noneSmall, one, lowBytes, numberMade, digitsBefore}
+use Rattle.page.specs.Packed.{Small, noneSmall, oneSmall, lowBytes, numberMade, digitsBefore}
 
 -- ---- the lowest bytes of a number
 
@@ -46,14 +46,14 @@ eight-low x =
 
 pub small-append : {a b : List ℕ} → Small a → Small b → Small (a ++ b)
 small-append noneSmall q = q
-small-append (one p r) q = one p (small-append r q)
+small-append (oneSmall p r) q = oneSmall p (small-append r q)
 
 -- its lowest bytes are the first ones
 low-made : (k : ℕ) {l : List ℕ} → Small l → k ≤ length l → lowBytes k (numberMade l) ≡ take k l
 unfolding lowBytes numberMade
 low-made zero s p = refl
 low-made (suc k) noneSmall p = absurd (omega arith)
-low-made (suc k) (one {byte} {more} small s) p =
+low-made (suc k) (oneSmall {byte} {more} small s) p =
     let low : (byte + numberMade more * 256) % 256 ≡ byte = omega arith in
     let high : (byte + numberMade more * 256) / 256 ≡ numberMade more = omega arith in
     rw (low, high) (ap (λ l. byte ∷ l) (low-made k s (omega arith)))
@@ -63,7 +63,7 @@ shift-made : (j : ℕ) {l : List ℕ} → Small l → j ≤ length l → numberM
 unfolding numberMade
 shift-made zero s p = omega arith
 shift-made (suc j) noneSmall p = absurd (omega arith)
-shift-made (suc j) (one {byte} {more} small s) p =
+shift-made (suc j) (oneSmall {byte} {more} small s) p =
     let high : (byte + numberMade more * 256) / 256 ≡ numberMade more = omega arith in
     let eight : 8 * suc j ≡ 8 + 8 * j = omega arith in
     let wide : 2 ^ (8 * suc j) ≡ 256 * 2 ^ (8 * j) = ap (λ e. 2 ^ e) eight ∙ pow-add 2 8 (8 * j) in
@@ -73,7 +73,7 @@ shift-made (suc j) (one {byte} {more} small s) p =
 small-drop : (j : ℕ) {l : List ℕ} → Small l → Small (drop j l)
 small-drop zero s = s
 small-drop (suc j) noneSmall = noneSmall
-small-drop (suc j) (one p s) = small-drop j s
+small-drop (suc j) (oneSmall p s) = small-drop j s
 
 -- ---- the last so many digits of a number
 
@@ -89,7 +89,7 @@ last-length (suc k) n = omega (arith, length-append (lastDigits k (n / 10)) (dig
 last-small : (k n : ℕ) → Small (lastDigits k n)
 unfolding lastDigits
 last-small zero n = noneSmall
-last-small (suc k) n = small-append (last-small k (n / 10)) (one (omega arith) noneSmall)
+last-small (suc k) n = small-append (last-small k (n / 10)) (oneSmall (omega arith) noneSmall)
 
 -- the last k of the last k + j
 last-drop : (j k m n : ℕ) → m ≡ j + k → drop j (lastDigits m n) ≡ lastDigits k n
@@ -122,7 +122,7 @@ module _ (most d n after : ℕ) (rest : List ℕ) (fits : d ≤ most) (below : n
   -- what the shift leaves
   pub packed-piece : numberMade (digits-then (suc most)) / 2 ^ (8 * (most - d)) ≡ numberMade (decimal n ++ (after ∷ rest))
   packed-piece =
-      let all : Small (digits-then (suc most)) = small-append (last-small (suc most) n) (one byte small) in
+      let all : Small (digits-then (suc most)) = small-append (last-small (suc most) n) (oneSmall byte small) in
       let long : length (digits-then (suc most)) ≡ suc most + suc (length rest) =
       length-append (lastDigits (suc most) n) (after ∷ rest) ∙ ap (λ k. k + suc (length rest)) (last-length (suc most) n) in
       shift-made (most - d) all (omega arith) ∙ ap numberMade (dropped ∙ ap (λ l. l ++ (after ∷ rest)) (sym (decimal-last d n below above)))
@@ -131,7 +131,7 @@ module _ (most d n after : ℕ) (rest : List ℕ) (fits : d ≤ most) (below : n
   pub packed-shown : (kept : ℕ) → kept ≤ suc (length rest) → decimal n ++ take kept (after ∷ rest) ≡ lowBytes (d + 1 + kept) (numberMade (decimal n ++ (after ∷ rest)))
   packed-shown kept few =
       let same : decimal n ≡ lastDigits (suc d) n = decimal-last d n below above in
-      let all : Small (decimal n ++ (after ∷ rest)) = small-append (subst Small (sym same) (last-small (suc d) n)) (one byte small) in
+      let all : Small (decimal n ++ (after ∷ rest)) = small-append (subst Small (sym same) (last-small (suc d) n)) (oneSmall byte small) in
       let digits : length (decimal n) ≡ suc d = ap length same ∙ last-length (suc d) n in
       let long : length (decimal n ++ (after ∷ rest)) ≡ suc d + suc (length rest) = length-append (decimal n) (after ∷ rest) ∙ ap (λ k. k + suc (length rest)) digits in
       let place : length (decimal n) + kept ≡ d + 1 + kept = omega arith in
@@ -240,7 +240,7 @@ counted-as-told : {n d : ℕ} → n < 100000 → d ≡ digitsBefore n → Counte
 counted-as-told {n} p e = subst (λ k. Counted k n) (sym e) (counted n p)
 
 two-fill : Small (48 ∷ 48 ∷ [])
-two-fill = one {byte = 48} (omega arith) (one {byte = 48} (omega arith) noneSmall)
+two-fill = oneSmall {byte = 48} (omega arith) (oneSmall {byte = 48} (omega arith) noneSmall)
 
 module _ (n after d : ℕ) (p : n < 65536) (q : after < 256) (e : d ≡ digitsBefore n) where
   pub five-piece : (four : ℕ) → four ≡ fourDigits n
@@ -276,9 +276,9 @@ byte-then n after p = omega (arith, length-append (decimal n) (after ∷ []), de
 pub made-below : (k : ℕ) {l : List ℕ} → Small l → length l ≤ k → numberMade l < 256 ^ k
 unfolding numberMade
 made-below zero noneSmall p = omega arith
-made-below zero (one small s) p = absurd (omega arith)
+made-below zero (oneSmall small s) p = absurd (omega arith)
 made-below (suc k) noneSmall p = omega (arith, pow-suc 256 k, made-below k noneSmall (omega arith))
-made-below (suc k) (one {byte} {more} small s) p = omega (arith, pow-suc 256 k, made-below k s (omega arith))
+made-below (suc k) (oneSmall {byte} {more} small s) p = omega (arith, pow-suc 256 k, made-below k s (omega arith))
 
 module _ (words : List ℕ) (from : ℕ) where
   -- the bytes that are packed
@@ -309,7 +309,7 @@ module _ (words : List ℕ) (from : ℕ) where
         ∙ (add-comm (numberMade (drop (i - from) body) * 256) (getD words (i - 1) 0) ∙ sym (ap numberMade body-at))
 
     pub small-more : Small (drop (i - from) body) → getD words (i - 1) 0 < 256 → Small (drop (i - 1 - from) body)
-    small-more s p = subst Small (sym body-at) (one p s)
+    small-more s p = subst Small (sym body-at) (oneSmall p s)
 
     -- it has room
     pub packed-fits : Small (drop (i - from) body) → numberMade (drop (i - from) body) < 0x100000000000000

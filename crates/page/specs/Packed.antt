@@ -17,7 +17,7 @@ numberMade (byte ∷ more) = byte + numberMade more * 256
 -- numbers that are bytes
 pub data Small : List ℕ → Type 0 where
   noneSmall : Small []
-  one : {byte : ℕ} {more : List ℕ} → byte < 256 → Small more → Small (byte ∷ more)
+  oneSmall : {byte : ℕ} {more : List ℕ} → byte < 256 → Small more → Small (byte ∷ more)
 
 -- how many digits stand before the last one, of a number below 100,000
 unfoldable pub digitsBefore : ℕ → ℕ
