@@ -25,7 +25,9 @@ use Rattle.desk.specs.Desks.{Made, tableOf, packetOf}
 use Rattle.desk.specs.declared.Desk.{Desk}
 use Rattle.desk.proofs.Making.{made-sound}
 use Rattle.desk.proofs.Tables.{packet-sendable, packet-read}
-use Rattle.listener.specs.Listeners.{carries}
+use Rattle.listener.specs.Answers.{Hearing}
+use Rattle.listener.specs.Listeners.{carries, heardAll, hearOf}
+use Rattle.listener.specs.declared.Listener.{Listener}
 use Rattle.listener.proofs.Valid.{picture-valid}
 use Rattle.train_telegram.specs.Readings.{Shows}
 use Rattle.train_telegram.specs.States.{silent}
@@ -36,7 +38,7 @@ use Rattle.signals.specs.declared.Signals.{Signals}
 use Rattle.signals.proofs.Answers.{absence-no-acceptance}
 use Rattle.signals.proofs.History.{shown-from}
 use Rattle.signals.proofs.Promises as train-promises
-use Rattle.claims.specs.Demand2.{Codes, AsDocument01Says, ReadBack, recordAfter, TheSignalReader, Valid, Demand2}
+use Rattle.claims.specs.Demand2.{Codes, AsDocument01Says, ReadBack, recordAfter, TheSignalReader, TheListener, Valid, Demand2}
 
 -- ---- writing and reading
 
@@ -131,7 +133,17 @@ reader =
           fact-mono 𝓤 _ _ (λ p before. p .1 ∙ ap (λ (s : Signals). updateOf s present (telegram .now) .signals) before);
     }
 
--- and it is the one whose history is known
+-- and so is the listener
+listener : TheListener
+unfolding heardAll
+listener =
+    record {
+      fresh-listener = λ κs handed listener lasts p. p;
+      hears = λ earlier κs (listener, (telegram, _)) heard lasts p before.
+          ap (λ (h : Hearing). h .listener) p ∙ ap (λ (l : Listener). hearOf carries l (readOf (telegram .now)) .listener) before;
+    }
+
+-- the record is the one whose history is known
 same-record : (calls : List Call) → recordAfter calls ≡ updatedAll calls
 unfolding recordAfter updatedAll
 same-record [] = refl
@@ -147,4 +159,4 @@ valid =
     }
 
 pub demand2 : Demand2
-demand2 = record { coded = coded; read-back = read-back; reader = reader; valid = valid }
+demand2 = record { coded = coded; read-back = read-back; reader = reader; listener = listener; valid = valid }

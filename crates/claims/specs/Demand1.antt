@@ -66,7 +66,7 @@ pub record TrainTelegrams : Type 0 where
   pub defined : OneAnswer update.ended update.Reads.Learnt
   -- M-1d, R-10, R-16, R-17, R-22: a telegram is refused under the number of document 01
   pub refused : OfUpdate (λ signals present telegram updated. present ≡ true → RefusedBy (trainRows telegram) refusalUnder (notedOf (updated .answer)))
-  -- R-23, C-08: and it is accepted when no row holds, and never else, so that no reader may miss a good one
+  -- R-23, C-07: and it is accepted when no row holds, and never else, so that no reader may miss a good one
   pub accepted : OfUpdate (λ signals present telegram updated. present ≡ true → (notedOf (updated .answer) ≡ acceptance) ↔ NoneHolds (trainRows telegram))
   -- S-13, S-14: a call with none is a miss, and is not refused
   pub absent : OfUpdate (λ signals present telegram updated. present ≡ false → (notedOf (updated .answer) ≡ absence) × (updated .signals ≡ missedBy signals))

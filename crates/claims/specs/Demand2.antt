@@ -30,7 +30,7 @@ use Rattle.signals.specs.Answers.{acceptance, notedOf}
 use Rattle.signals.specs.Histories.{Call, LastAccepted}
 use Rattle.signals.specs.Signals.{freshSignals, updateOf}
 use Rattle.signals.specs.declared.Signals.{Signals}
-use Rattle.claims.specs.Functions.{OfDistance, OfRead, OfWriteTelegram, OfTable, OfWrite, OfFreshSignals, OfUpdate, OfUpdateLent}
+use Rattle.claims.specs.Functions.{OfDistance, OfRead, OfWriteTelegram, OfTable, OfWrite, OfFreshListener, OfHear, OfFreshSignals, OfUpdate, OfUpdateLent}
 
 -- ---- "Conditions, written and read, and signals, read, are coded as SUBSET-119 issue 4.0.0 and our fleet binding in document 01 say."
 
@@ -73,12 +73,18 @@ unfoldable pub recordAfter : List Call → Signals
 recordAfter [] = freshSignals
 recordAfter ((present, telegram) ∷ earlier) = updateOf (recordAfter earlier) present telegram .signals
 
--- C-08: it is the public functions that make that record: a fresh one is what the maker gives, and a call leaves the next of the one
+-- C-07: it is the public functions that make that record: a fresh one is what the maker gives, and a call leaves the next of the one
 -- that it found, whether the record is handed over or lent
 pub record TheSignalReader : Type 2 where
   pub fresh-signals : OfFreshSignals (λ signals. signals ≡ recordAfter [])
   pub updates : (earlier : List Call) → OfUpdate (λ signals present telegram updated. signals ≡ recordAfter earlier → updated .signals ≡ recordAfter ((present, telegram) ∷ earlier))
   pub updates-lent : (earlier : List Call) → OfUpdateLent (λ signals present telegram answer after. signals ≡ recordAfter earlier → after ≡ recordAfter ((present, telegram) ∷ earlier))
+
+-- R-26, M-1b: what a fresh listener has become after these telegrams, of any bytes, the newest first, is `heardAll`. It, too, is what the
+-- public functions make.
+pub record TheListener : Type 0 where
+  pub fresh-listener : OfFreshListener (λ listener. listener ≡ heardAll carries [])
+  pub hears : (earlier : List (List ℕ)) → OfHear (λ listener telegram heard. listener ≡ heardAll carries earlier → heard .listener ≡ heardAll carries (telegram ∷ earlier))
 
 pub record Valid : Type 0 where
   -- M-2e: whatever the bytes, a slot that is read has a type, a country, a voltage and a limit of the table of conditions
@@ -94,4 +100,5 @@ pub record Demand2 : Type 2 where
   pub coded : AsDocument01Says
   pub read-back : ReadBack
   pub reader : TheSignalReader
+  pub listener : TheListener
   pub valid : Valid
