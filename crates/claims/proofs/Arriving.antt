@@ -13,8 +13,8 @@ use Rattle.order_list.proofs.Listed.{listed-there, listed-when}
 use Rattle.places.specs.Places.{placeAt, placeOf, lowestFree, isLive}
 use Rattle.places.specs.declared.Place.{Place}
 use Rattle.places.proofs.Live.{live-there, live-when, free-there, free-before}
-use Rattle.orders.specs.Orders.{listRefusal}
-use Rattle.orders.proofs.Lists.{Fair, fair}
+use Rattle.orders.specs.Orders.{listRefusal, Fair}
+use Rattle.orders.proofs.Lists.{fair}
 use Rattle.numbers.specs.Numbers.{hasNumber, isPermitted, nextNumber, numberAfter}
 use Rattle.numbers.proofs.Round.{between-before}
 use Rattle.numbers.proofs.Search.{FirstPermitted, number-none, number-some, permitted-when, permitted-only}

@@ -9,7 +9,10 @@ use lib.ListN.{length}
 use Rattle.kit.specs.Ladder.{NoneHolds}
 use Rattle.kit.proofs.Cases.{given}
 use Rattle.kit.proofs.Contracts.{agree, both-facts}
+use Rattle.wire.specs.Verdicts.{ruledRefused, rulingOf}
+use Rattle.wire.specs.declared.verdicts.Verdict.{Verdict}
 use Rattle.wire.specs.declared.verdicts.Verdict.the-variants.{Refused}
+use Rattle.wire.proofs.Answers.{ruling-apart}
 use Rattle.telegram.specs.Telegrams.{readRows, writeRows}
 use Rattle.telegram.proofs.Refusals.{reading-refused, writing-refused, refused-untouched}
 use Rattle.train_codes.specs.Refusals.{trainRows}
@@ -28,20 +31,24 @@ use Rattle.signals.proofs.Answers.{noted-apart, updating-apart}
 use Rattle.signals.proofs.Promises as train-promises
 use Rattle.claims.specs.Demand1.{RefusedBy, Lists, Telegrams, TrainTelegrams, TrainTelegramsLent, Buffers, Demand1}
 
+-- what is proved of a verdict is proved of what it tells
+ruled : (rows : List (Bool × ℕ)) (verdict : Verdict) → RefusedBy rows Refused verdict → RefusedBy rows ruledRefused (rulingOf verdict)
+ruled rows verdict by number = (λ e. by number .0 (ruling-apart verdict (Refused number) e), λ decides. ap rulingOf (by number .1 decides))
+
 lists : Lists
 lists =
     record {
       defined = λ κs handed answer other lasts others p q. (agree p q, refl);
-      refused = λ κs (desk, (list, _)) answer lasts p. subst⁻¹ (λ a. RefusedBy (listRows (desk .places) (list .now)) Refused (a .verdict)) p (desk-promises.refused-by desk (list .now));
-      unchanged = λ κs (desk, (list, _)) answer lasts p.
-          subst⁻¹ (λ a. (number : ℕ) → a .verdict ≡ Refused number → a .desk ≡ desk) p (desk-promises.refused-unchanged desk (list .now));
+      refused = λ κs (desk, (list, _)) answer lasts p. ruled (listRows (desk .places) (list .now)) (answer .verdict) (subst⁻¹ (λ a. RefusedBy (listRows (desk .places) (list .now)) Refused (a .verdict)) p (desk-promises.refused-by desk (list .now)));
+      unchanged = λ κs (desk, (list, _)) answer lasts p number e.
+          subst⁻¹ (λ a. (number : ℕ) → a .verdict ≡ Refused number → a .desk ≡ desk) p (desk-promises.refused-unchanged desk (list .now)) number (ruling-apart (answer .verdict) (Refused number) e);
     }
 
 telegrams : Telegrams
 telegrams =
     record {
       read-defined = λ κs handed answer other lasts others p q. (agree p q, refl);
-      read-refused = λ κs (bytes, _) answer lasts p. subst⁻¹ (λ a. RefusedBy (readRows (bytes .now)) Refused (a .verdict)) p (reading-refused (bytes .now));
+      read-refused = λ κs (bytes, _) answer lasts p. ruled (readRows (bytes .now)) (answer .verdict) (subst⁻¹ (λ a. RefusedBy (readRows (bytes .now)) Refused (a .verdict)) p (reading-refused (bytes .now)));
       defined = λ κs handed answer other lasts others p q. (hearing-apart answer other (agree p q), refl);
       refused = λ κs (listener, (telegram, _)) heard lasts p.
           subst⁻¹ (λ (h : Hearing). RefusedBy (hearRows listener (telegram .now)) refusedAs (h .told)) p (listener-promises.refused-when carries listener (telegram .now));
@@ -75,7 +82,7 @@ train =
       defined = λ κs handed answer other lasts others p q. (updating-apart answer other (agree p q), refl);
       refused = λ κs (signals, (present, (telegram, _))) updated lasts p.
           subst⁻¹ (λ (u : Updating). present ≡ true → RefusedBy (trainRows (telegram .now)) refusalUnder (u .noted)) p (call-refused signals (telegram .now) present);
-      accepted = λ κs (signals, (present, (telegram, _))) updated lasts p.
+      accepted-when = λ κs (signals, (present, (telegram, _))) updated lasts p.
           subst⁻¹ (λ (u : Updating). present ≡ true → (u .noted ≡ acceptance) ↔ NoneHolds (trainRows (telegram .now))) p (call-accepted signals (telegram .now) present);
       absent = λ κs (signals, (present, (telegram, _))) updated lasts p.
           subst⁻¹ (λ (u : Updating). present ≡ false → (u .noted ≡ absence) × (u .signals ≡ missedBy signals)) p (call-absent signals (telegram .now) present);
@@ -90,7 +97,7 @@ train-lent =
           both-facts 𝓤 _ _ _ (λ p q. (noted-apart answer other (agree (p .0) (q .0)), ap (λ after. (after, (tt, (tt, tt)))) (agree (p .1) (q .1))));
       refused = λ M 𝓤 H A mem run κs (held, (present, (telegram, _))) ghost answer lasts.
           fact-mono 𝓤 _ _ (λ p. subst⁻¹ (λ a. present ≡ true → RefusedBy (trainRows (telegram .now)) refusalUnder a) (p .0) (call-refused (held .now) (telegram .now) present));
-      accepted = λ M 𝓤 H A mem run κs (held, (present, (telegram, _))) ghost answer lasts.
+      accepted-when = λ M 𝓤 H A mem run κs (held, (present, (telegram, _))) ghost answer lasts.
           fact-mono 𝓤 _ _ (λ p. subst⁻¹ (λ a. present ≡ true → (a ≡ acceptance) ↔ NoneHolds (trainRows (telegram .now))) (p .0) (call-accepted (held .now) (telegram .now) present));
       absent = λ M 𝓤 H A mem run κs (held, (present, (telegram, _))) ghost answer lasts.
           fact-mono 𝓤 _ _ (λ p none. given (call-absent (held .now) (telegram .now) present none) (λ (noted, kept). (p .0 ∙ noted, p .1 ∙ kept)));
@@ -104,8 +111,8 @@ buffers =
     record {
       defined = λ κs handed answer other lasts others p q. (agree (p .0) (q .0), ap (λ bytes. (tt, (tt, (bytes, tt)))) (agree (p .1) (q .1)));
       refused = λ κs (desk, (packet, (buffer, _))) verdict lasts p.
-          subst⁻¹ (λ v. RefusedBy (writeRows packet (length (buffer .now))) Refused v) (p .0) (writing-refused (packetOf desk packet) (buffer .now));
-      unchanged = λ κs (desk, (packet, (buffer, _))) verdict lasts p number e. p .1 ∙ refused-untouched (packetOf desk packet) (buffer .now) number (sym (p .0) ∙ e);
+          ruled (writeRows packet (length (buffer .now))) verdict (subst⁻¹ (λ v. RefusedBy (writeRows packet (length (buffer .now))) Refused v) (p .0) (writing-refused (packetOf desk packet) (buffer .now)));
+      unchanged = λ κs (desk, (packet, (buffer, _))) verdict lasts p number e. p .1 ∙ refused-untouched (packetOf desk packet) (buffer .now) number (sym (p .0) ∙ ruling-apart verdict (Refused number) e);
     }
 
 pub demand1 : Demand1

@@ -10,12 +10,15 @@ use Rattle.kit.specs.Bytes.{Bytes}
 use Rattle.kit.proofs.Cases.{given}
 use Rattle.wire.specs.Distances.{InRange, distanceWord}
 use Rattle.wire.specs.declared.verdicts.Verdict.the-variants.{Accepted}
+use Rattle.wire.specs.Verdicts.{rulingOf}
+use Rattle.wire.proofs.Answers.{ruling-apart}
 use Rattle.wire.proofs.Metres.{word-said}
 use Rattle.condition.specs.Slots.{MayHold, settled, codedOf}
 use Rattle.condition.proofs.Coding.{coded-back}
 use Rattle.telegram.specs.Sendable.{slotOn, isIdle}
 use Rattle.telegram.specs.Tables.{tableSlot}
 use Rattle.telegram.specs.Telegrams.{codedAt, telegramOf as meant, bytesOf, readOf, writeVerdict, written}
+use Rattle.telegram.specs.declared.Reading.{Reading}
 use Rattle.telegram.proofs.Carried.{slot-carried}
 use Rattle.telegram.proofs.Refusals.{reading-accepted, accepted-written, accepted-asked, packet-fills}
 use Rattle.telegram.proofs.Valid.{length-read, slot-read, slot-meant, never-invalid, accepted-means, accepted-sendable}
@@ -32,11 +35,11 @@ use Rattle.listener.proofs.Valid.{picture-valid}
 use Rattle.train_telegram.specs.Readings.{Shows}
 use Rattle.train_telegram.specs.States.{silent}
 use Rattle.signals.specs.Answers.{acceptance, Updating}
-use Rattle.signals.specs.Histories.{Call, updatedAll, LastAccepted}
+use Rattle.signals.specs.Histories.{Call, LastAccepted}
 use Rattle.signals.specs.Signals.{updateOf}
 use Rattle.signals.specs.declared.Signals.{Signals}
 use Rattle.signals.proofs.Answers.{absence-no-acceptance}
-use Rattle.signals.proofs.History.{shown-from}
+use Rattle.signals.proofs.History.{updatedAll, shown-from}
 use Rattle.signals.proofs.Promises as train-promises
 use Rattle.claims.specs.Demand2.{Codes, AsDocument01Says, ReadBack, recordAfter, TheSignalReader, TheListener, Valid, Demand2}
 
@@ -80,9 +83,10 @@ call-shows signals telegram false accepted = absurd (absence-no-acceptance (sym 
 coded : AsDocument01Says
 coded =
     record {
-      written = λ κs (desk, (packet, (buffer, _))) verdict lasts p made accepted.
-          subst⁻¹ (λ bytes. Codes (λ c. c) bytes (packetOf desk packet)) (p .1) (written-codes desk packet (buffer .now) made (sym (p .0) ∙ accepted));
-      read = λ κs (bytes, _) reading lasts p. subst⁻¹ (λ r. r .verdict ≡ Accepted → Codes settled (bytes .now) (r .telegram)) p (read-codes (bytes .now));
+      writes = λ κs (desk, (packet, (buffer, _))) verdict lasts p made accepted.
+          subst⁻¹ (λ bytes. Codes (λ c. c) bytes (packetOf desk packet)) (p .1) (written-codes desk packet (buffer .now) made (sym (p .0) ∙ ruling-apart verdict Accepted accepted));
+      reads-so = λ κs (bytes, _) reading lasts p accepted.
+          subst⁻¹ (λ r. r .verdict ≡ Accepted → Codes settled (bytes .now) (r .telegram)) p (read-codes (bytes .now)) (ruling-apart (reading .verdict) Accepted accepted);
       distances = λ κs (word, _) distance lasts p. subst⁻¹ (λ d. word < 0x10000 → InRange d × (distanceWord d ≡ word)) p (word-said word);
       signals = λ κs (signals, (present, (telegram, _))) updated lasts p.
           subst⁻¹ (λ (u : Updating). u .noted ≡ acceptance → Shows (u .signals .states) (telegram .now)) p (call-shows signals (telegram .now) present);
@@ -111,12 +115,13 @@ read-back : ReadBack
 unfolding packetOf
 read-back =
     record {
-      packets = λ κs (desk, (packet, (buffer, _))) verdict lasts p made accepted κs' (bytes, _) reading lasts' q same.
-          q ∙ (ap readOf (same ∙ p .1) ∙ read-written desk packet (buffer .now) made (sym (p .0) ∙ accepted));
+      each-packet = λ κs (desk, (packet, (buffer, _))) verdict lasts p made accepted κs' (bytes, _) reading lasts' q same.
+          let back = q ∙ (ap readOf (same ∙ p .1) ∙ read-written desk packet (buffer .now) made (sym (p .0) ∙ ruling-apart verdict Accepted accepted)) in
+          (ap (λ (r : Reading). rulingOf (r .verdict)) back, ap (λ (r : Reading). r .telegram) back);
       table = λ κs (desk, _) table lasts p i below. slot-carried (tableOf desk) i below .1 ∙ ap (λ t. tableSlot t i) (sym p);
       again = λ κs (bytes, _) reading lasts p fits accepted κs' (telegram, (buffer, _)) verdict lasts' q same long i below.
           ap (λ l. getD l i 0) (q .1 ∙ ap (λ t. written t (buffer .now)) (same ∙ ap (λ r. r .telegram) p))
-          ∙ written-again (bytes .now) (buffer .now) fits (sym (ap (λ r. r .verdict) p) ∙ accepted) long i below;
+          ∙ written-again (bytes .now) (buffer .now) fits (sym (ap (λ r. r .verdict) p) ∙ ruling-apart (reading .verdict) Accepted accepted) long i below;
     }
 
 -- ---- what is shown

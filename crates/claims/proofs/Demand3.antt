@@ -1,23 +1,25 @@
 -- Demand 3 is proved: the page specs/Demand3.antt is what proofs/Ends.antt proves over any figures and binding, taken with the fleet's.
-use mathlib.Core.Path.{sym, _∙_}
+use mathlib.Core.Path.{sym, ap, _∙_}
 use mathlib.Core.List.{List, [], _∷_}
 use Prim.Native.Nat.{ℕ}
 use native.Mathlib.Omega.{arith}
+use Rattle.wire.specs.Verdicts.{rulingOf}
+use Rattle.wire.specs.declared.verdicts.Verdict.the-variants.{Accepted}
+use Rattle.wire.proofs.Answers.{ruling-apart}
 use Rattle.telegram.proofs.ReadAgain.{read-again}
 use Rattle.telegram.proofs.Refusals.{accepted-written, packet-accepted}
-use Rattle.desk.specs.Desks.{baseRest as eight, packetOf, Made, made, called}
+use Rattle.desk.specs.Desks.{baseRest as eight, packetOf, Made, made-fresh, called}
 use Rattle.listener.specs.Listeners.{carries}
 use Rattle.claims.specs.Calls.{deskAfter}
 use Rattle.claims.specs.Hearings.{Item}
-use Rattle.claims.specs.Ends.{Claim}
 use Rattle.claims.specs.Demand3.{fleetBinding, LostOrRepeated, TheFunctions, Demand3}
-use Rattle.claims.proofs.Ends.{ReadsBack, claimed}
+use Rattle.claims.proofs.Ends.{ReadsBack, Claim, claimed}
 use Rattle.claims.proofs.Regular.{regular}
 
 -- a desk of any calls was made by them
 calls-made : (calls : List (List ℕ)) → Made (deskAfter eight calls)
 unfolding deskAfter
-calls-made [] = made
+calls-made [] = made-fresh
 calls-made (list ∷ calls) = called (calls-made calls) list
 
 functions : TheFunctions
@@ -27,8 +29,8 @@ functions =
       fresh-desk = λ κs handed desk lasts p. p;
       accepts = λ κs handed answer lasts p. p;
       made = calls-made;
-      writes = λ κs (desk, (packet, (buffer, _))) verdict lasts p accepted. p .1 ∙ accepted-written (packetOf desk packet) (buffer .now) (sym (p .0) ∙ accepted);
-      writes-five = λ κs (desk, (packet, (buffer, _))) verdict lasts p low high long. p .0 ∙ packet-accepted (packetOf desk packet) (buffer .now) low high long;
+      writes = λ κs (desk, (packet, (buffer, _))) verdict lasts p accepted. p .1 ∙ accepted-written (packetOf desk packet) (buffer .now) (sym (p .0) ∙ ruling-apart verdict Accepted accepted);
+      writes-five = λ κs (desk, (packet, (buffer, _))) verdict lasts p low high long. ap rulingOf (p .0 ∙ packet-accepted (packetOf desk packet) (buffer .now) low high long);
       fresh-listener = λ κs handed listener lasts p. p;
       hears = λ κs handed heard lasts p. p;
     }

@@ -1,5 +1,5 @@
 -- The listener follows what is heard: under the premises it shows the tables heard whole, and the set in hand holds the packets heard
--- of the newest step that is not whole (READINGS 3.4). Where the bound of 8,191 steps is used, it is so that two steps are not taken
+-- of the newest step that is not whole. Where the bound of 8,191 steps is used, it is so that two steps are not taken
 -- for one (`steps-apart`) and that the gap is the true distance (`gap-true`).
 use Prim.Native.Nat.{ℕ, _+_, _-_, _%_, _<_, _≤_}
 use mathlib.Core.Path.{_≡_, refl, sym, ap, _∙_, subst}
@@ -10,10 +10,11 @@ use lib.ListN.{length}
 use native.Mathlib.Omega.{arith}
 use borrow.Author.Tests.{eqb-true, eqb-false, eq-eqb, ne-eqb}
 use Rattle.kit.proofs.Cases.{on, clash, given}
+use Rattle.wire.proofs.Answers.{ruling-apart}
 use Rattle.wire.specs.Steps.{steps}
 use Rattle.wire.specs.Verdicts.{numberOf}
 use Rattle.condition.specs.declared.slots.Slot.{Slot}
-use Rattle.wire.specs.declared.verdicts.Verdict.the-variants.{Accepted}
+use Rattle.wire.specs.declared.verdicts.Verdict.the-variants.{Accepted, Refused}
 use Rattle.telegram.specs.Tables.{packets, firstPacket, fourOf}
 use Rattle.condition.specs.Slots.{slotCount}
 use Rattle.telegram.specs.declared.Telegram.{Telegram}
@@ -31,7 +32,7 @@ use Rattle.hand.proofs.Gathering.{Gathered, gathered-none, gathered-as, gathere
 use Rattle.listener.proofs.Hearing.{hear-refused, hear-as, heard-last, heard-copy, heard-part, heard-taken, fresh-picture, fresh-last, fresh-hand, taken-picture, taken-last, taken-marks, taken-hand}
 use Rattle.claims.specs.Calls.{stepsMade, tableIn}
 use Rattle.claims.specs.Hearings.{Item, sent, spoilt, wasHeard, heardWhole, wholes, firstOr, NoneAfter, newestOr, farthest, Near}
-use Rattle.claims.specs.Ends.{Binding, messageOf, listenerAfter, Sent, Premises, nothing, in-turn, late, damaged, pictureOf, lastOf, trueGap, PutRight, expected, Answered}
+use Rattle.claims.specs.Ends.{Binding, messageOf, listenerAfter, OfTheDesk, Premises, nothing, in-turn, late, damaged, pictureOf, lastOf, trueGap, PutRight, expected, Answered}
 use Rattle.claims.proofs.Sequences.{heard-here, heard-other, heard-above, whole-same, part-before, nothing-whole, heard-spoilt, wholes-spoilt, whole-spoilt, whole-old, whole-other, whole-apart, whole-below, packet-heard, wholes-old, wholes-part, wholes-new, newest-whole, first-below}
 
 -- two steps less than 8,192 apart have different step numbers
@@ -45,7 +46,7 @@ nth-packet k p low =
     (λ e. rw e (eq-eqb (firstPacket + k) p (omega (arith, eqb-true k (p - firstPacket) e))))
     (λ e. rw e (ne-eqb (firstPacket + k) p (λ same. eqb-false k (p - firstPacket) e (omega arith))))
 
-module _ (rest limit : ℕ) {Message : Type 0} (binding : Binding Message) (calls : List (List ℕ)) where
+module _ (rest reach : ℕ) {Message : Type 0} (binding : Binding Message) (calls : List (List ℕ)) where
   abbrev T : ℕ → List Slot
   T n = tableIn rest calls n
 
@@ -59,13 +60,13 @@ module _ (rest limit : ℕ) {Message : Type 0} (binding : Binding Message) (call
   -- the marks of the newest table, by the one before it
   abbrev pub marksFor : List ℕ → List Bool
   marksFor [] = freshListener .marks
-  marksFor (n ∷ before) = marksOf limit (trueGap rest limit binding calls before n) (pictureOf rest limit binding calls before) (T n)
+  marksFor (n ∷ before) = marksOf reach (trueGap rest reach binding calls before n) (pictureOf rest reach binding calls before) (T n)
 
   -- ---- what the listener shows, and what it has in hand
 
   pub record Shown (whole : List ℕ) (l : Listener) : Type 0 where
-    pub picture : l .picture ≡ pictureOf rest limit binding calls whole
-    pub last : l .last ≡ lastOf rest limit binding calls whole
+    pub picture : l .picture ≡ pictureOf rest reach binding calls whole
+    pub last : l .last ≡ lastOf rest reach binding calls whole
     pub marks : l .marks ≡ marksFor whole
 
   data InHand (r : List (Item Message)) (hand : Hand) : Type 0 where
@@ -81,7 +82,7 @@ module _ (rest limit : ℕ) {Message : Type 0} (binding : Binding Message) (call
 
   -- one telegram more: the listener follows, and the answer is the one expected
   Follows : Item Message → List (Item Message) → Hearing → Type 0
-  Follows item r h = Rel (item ∷ r) (h .listener) × (h .told ≡ expected rest limit binding calls item r)
+  Follows item r h = Rel (item ∷ r) (h .listener) × (h .told ≡ expected rest reach binding calls item r)
 
   -- ---- a repeat of the last whole table
 
@@ -100,11 +101,11 @@ module _ (rest limit : ℕ) {Message : Type 0} (binding : Binding Message) (call
         (λ k. rw (wholes-old n p r w) (near n))
         (gathered-as (got (sent n p ∷ r) m) (λ k small. heard-other n p r m (firstPacket + k) other) g)
 
-    follow-old : (l : Listener) (before : List ℕ) → wholes r ≡ n ∷ before → 3 ≤ p → p ≤ 7 → Rel r l → Follows (sent n p) r (heardOf limit l (telegramIn n p))
+    follow-old : (l : Listener) (before : List ℕ) → wholes r ≡ n ∷ before → 3 ≤ p → p ≤ 7 → Rel r l → Follows (sent n p) r (heardOf reach l (telegramIn n p))
     unfolding Follows
     follow-old l before newest low high v =
         let last : isLast (l .last) (n % steps) ≡ true = rw (v .shown .last, newest) (same-last (n % steps)) in
-        rw (heard-last limit l (telegramIn n p) last, packet-heard r n p w low high) (
+        rw (heard-last reach l (telegramIn n p) last, packet-heard r n p w low high) (
           record { shown = subst (λ s. Shown s l) (sym (wholes-old n p r w)) (v .shown); hand = hand-old (l .hand) (v .hand) },
           refl,
         )
@@ -122,14 +123,14 @@ module _ (rest limit : ℕ) {Message : Type 0} (binding : Binding Message) (call
     not-last : (l : Listener) → Shown (wholes r) l → isLast (l .last) (n % steps) ≡ false
     not-last l v = rw (v .last) (go (wholes r) refl)
       where
-        go : (whole : List ℕ) → wholes r ≡ whole → isLast (lastOf rest limit binding calls whole) (n % steps) ≡ false
+        go : (whole : List ℕ) → wholes r ≡ whole → isLast (lastOf rest reach binding calls whole) (n % steps) ≡ false
         go [] e = never-last (n % steps)
         go (m ∷ before) e = other-last (m % steps) (n % steps) (steps-apart m n (newest-near m before e .0) (newest-near m before e .1))
 
-    gap-is : (l : Listener) → Shown (wholes r) l → gapFrom (l .last) (n % steps) ≡ trueGap rest limit binding calls (wholes r) n
+    gap-is : (l : Listener) → Shown (wholes r) l → gapFrom (l .last) (n % steps) ≡ trueGap rest reach binding calls (wholes r) n
     gap-is l v = rw (v .last) (go (wholes r) refl)
       where
-        go : (whole : List ℕ) → wholes r ≡ whole → gapFrom (lastOf rest limit binding calls whole) (n % steps) ≡ trueGap rest limit binding calls whole n
+        go : (whole : List ℕ) → wholes r ≡ whole → gapFrom (lastOf rest reach binding calls whole) (n % steps) ≡ trueGap rest reach binding calls whole n
         go [] e = never-gap (n % steps)
         go (m ∷ before) e = step-gap m n (omega (arith, newest-near m before e .0)) (omega (arith, newest-near m before e .1))
 
@@ -165,13 +166,13 @@ module _ (rest limit : ℕ) {Message : Type 0} (binding : Binding Message) (call
           (gathered-as (got (sent n p ∷ r) n) (λ k small. unchanged (firstPacket + k)) (subst (λ k. Gathered (T k) (k % steps) (got r k) hand) e g)))
           (λ other. absurd (clash heard (heard-above n m r p below (omega (arith, there n after, eqb-false m n other)))))
 
-      follow-copy : (l : Listener) → Rel r l → Follows (sent n p) r (heardOf limit l (telegramIn n p))
+      follow-copy : (l : Listener) → Rel r l → Follows (sent n p) r (heardOf reach l (telegramIn n p))
       unfolding Follows
       follow-copy l v =
           let same : firstPacket + (p - firstPacket) ≡ p = omega arith in
           let copy : isHeld (setFor (l .hand) (n % steps)) p ≡ true =
           gathered-held (ready (l .hand) (v .hand)) p low high ∙ (ap (λ q. wasHeard r n q) same ∙ heard) in
-          rw (heard-copy limit l (telegramIn n p) (not-last l (v .shown)) copy, heard) (
+          rw (heard-copy reach l (telegramIn n p) (not-last l (v .shown)) copy, heard) (
             record { shown = subst (λ s. Shown s l) (sym (wholes-part n p r still-part)) (v .shown); hand = hand-copy (l .hand) (v .hand) },
             refl,
           )
@@ -199,10 +200,10 @@ module _ (rest limit : ℕ) {Message : Type 0} (binding : Binding Message) (call
       whole-is = gathered-whole gathered
 
       -- the table is not yet whole: it is held
-      follow-part : heardWhole (sent n p ∷ r) n ≡ false → Follows (sent n p) r (heardOf limit l (telegramIn n p))
+      follow-part : heardWhole (sent n p ∷ r) n ≡ false → Follows (sent n p) r (heardOf reach l (telegramIn n p))
       unfolding Follows
       follow-part part =
-          rw (heard-part limit l (telegramIn n p) (not-last l (v .shown)) free (whole-is ∙ part), unheard, part) (
+          rw (heard-part reach l (telegramIn n p) (not-last l (v .shown)) free (whole-is ∙ part), unheard, part) (
             record {
               shown = subst (λ s. Shown s (holding l with-it)) (sym (wholes-part n p r part)) same;
               hand = busy n part (omega arith, after) (λ k later. later .0) (λ k. rw (wholes-part n p r part) near) gathered;
@@ -225,33 +226,33 @@ module _ (rest limit : ℕ) {Message : Type 0} (binding : Binding Message) (call
         table-is : with-it .slots ≡ T n
         table-is = gathered-table gathered twenty (whole-is ∙ whole)
 
-        answer-is : toldOfTable l with-it ≡ takenAs (n % steps) (countOf (T n)) (trueGap rest limit binding calls (wholes r) n)
+        answer-is : toldOfTable l with-it ≡ takenAs (n % steps) (countOf (T n)) (trueGap rest reach binding calls (wholes r) n)
         answer-is = rw (gathered .own-step, table-is, gap-is l (v .shown)) refl
 
-        shown-taken : Shown (n ∷ wholes r) (takenBy limit l with-it)
+        shown-taken : Shown (n ∷ wholes r) (takenBy reach l with-it)
         shown-taken = record {
-          picture = taken-picture limit l with-it ∙ table-is;
-          last = taken-last limit l with-it ∙ ap Step (gathered .own-step);
-          marks = taken-marks limit l with-it ∙ rw (gathered .own-step, table-is, gap-is l (v .shown), v .shown .picture) refl;
+          picture = taken-picture reach l with-it ∙ table-is;
+          last = taken-last reach l with-it ∙ ap Step (gathered .own-step);
+          marks = taken-marks reach l with-it ∙ rw (gathered .own-step, table-is, gap-is l (v .shown), v .shown .picture) refl;
         }
 
-        hand-taken : InHand (sent n p ∷ r) (takenBy limit l with-it .hand)
-        hand-taken = idle (taken-hand limit l with-it) (λ k later part q.
+        hand-taken : InHand (sent n p ∷ r) (takenBy reach l with-it .hand)
+        hand-taken = idle (taken-hand reach l with-it) (λ k later part q.
             let other : k ≡ n → ⊥ = λ same. whole-apart (sent n p ∷ r) n k whole part (sym same) in
             heard-other n p r k q other ∙ heard-above k n r q after (omega (arith, later .0, other)))
 
-        follow-whole : Follows (sent n p) r (heardOf limit l (telegramIn n p))
+        follow-whole : Follows (sent n p) r (heardOf reach l (telegramIn n p))
         unfolding Follows
         follow-whole =
-            rw (heard-taken limit l (telegramIn n p) (not-last l (v .shown)) free (whole-is ∙ whole) (ap clashes table-is ∙ apart), unheard, whole) (
-              record { shown = subst (λ s. Shown s (takenBy limit l with-it)) (sym (wholes-new n p r whole u)) shown-taken; hand = hand-taken },
+            rw (heard-taken reach l (telegramIn n p) (not-last l (v .shown)) free (whole-is ∙ whole) (ap clashes table-is ∙ apart), unheard, whole) (
+              record { shown = subst (λ s. Shown s (takenBy reach l with-it)) (sym (wholes-new n p r whole u)) shown-taken; hand = hand-taken },
               answer-is,
             )
 
   -- ---- any telegram
 
   -- no table heard whole is later than the newest of them
-  newest-is : (r : List (Item Message)) → Premises rest limit binding calls r → (n : ℕ) → heardWhole r n ≡ true → (m : ℕ) × (before : List ℕ) × (wholes r ≡ m ∷ before) × (n ≤ m)
+  newest-is : (r : List (Item Message)) → Premises rest reach binding calls r → (n : ℕ) → heardWhole r n ≡ true → (m : ℕ) × (before : List ℕ) × (wholes r ≡ m ∷ before) × (n ≤ m)
   newest-is r nothing n w = absurd (clash w (nothing-whole Message n))
   newest-is r (in-turn {earlier} k p h s after bound) n w =
       on (heardWhole earlier k)
@@ -278,7 +279,7 @@ module _ (rest limit : ℕ) {Message : Type 0} (binding : Binding Message) (call
   falling-more n [] made later f = made
   falling-more n (m ∷ before) made later f = (later m before refl, made, f)
 
-  pub falling : (r : List (Item Message)) → Premises rest limit binding calls r → Falling (wholes r)
+  pub falling : (r : List (Item Message)) → Premises rest reach binding calls r → Falling (wholes r)
   unfolding wholes
   falling r nothing = tt
   falling r (in-turn {earlier} n p h s after bound) =
@@ -302,16 +303,16 @@ module _ (rest limit : ℕ) {Message : Type 0} (binding : Binding Message) (call
 
   -- ---- the theorem, of tables of twenty slots whose numbers do not clash, and whose packets are read as they were sent
   module _ (twenty : (n : ℕ) → length (T n) ≡ slotCount) (apart : (n : ℕ) → clashes (T n) ≡ false)
-      (back : (n p : ℕ) → Sent rest limit binding calls n p → binding .read (messageOf rest limit binding calls (sent n p)) ≡ record { verdict = Accepted; telegram = telegramIn n p }) where
-    heard-as : (l : Listener) (n p : ℕ) → Sent rest limit binding calls n p → hearOf limit l (binding .read (messageOf rest limit binding calls (sent n p))) ≡ heardOf limit l (telegramIn n p)
-    heard-as l n p s = ap (hearOf limit l) (back n p s) ∙ hear-as limit l (record { verdict = Accepted; telegram = telegramIn n p }) refl
+      (back : (n p : ℕ) → OfTheDesk rest reach binding calls n p → binding .read (messageOf rest reach binding calls (sent n p)) ≡ record { verdict = Accepted; telegram = telegramIn n p }) where
+    heard-as : (l : Listener) (n p : ℕ) → OfTheDesk rest reach binding calls n p → hearOf reach l (binding .read (messageOf rest reach binding calls (sent n p))) ≡ heardOf reach l (telegramIn n p)
+    heard-as l n p s = ap (hearOf reach l) (back n p s) ∙ hear-as reach l (record { verdict = Accepted; telegram = telegramIn n p }) refl
 
-    follow-late : (l : Listener) (n p : ℕ) (r : List (Item Message)) (before : List ℕ) → Sent rest limit binding calls n p → wholes r ≡ n ∷ before → Rel r l
-        → Follows (sent n p) r (heardOf limit l (telegramIn n p))
+    follow-late : (l : Listener) (n p : ℕ) (r : List (Item Message)) (before : List ℕ) → OfTheDesk rest reach binding calls n p → wholes r ≡ n ∷ before → Rel r l
+        → Follows (sent n p) r (heardOf reach l (telegramIn n p))
     follow-late l n p r before s newest = follow-old n p r (newest-whole r n before newest) l before newest (s .1) (s .2)
 
-    follow-next : (l : Listener) (n p : ℕ) (r : List (Item Message)) → Premises rest limit binding calls r → Sent rest limit binding calls n p → NoneAfter n r
-        → Near n r → Rel r l → Follows (sent n p) r (heardOf limit l (telegramIn n p))
+    follow-next : (l : Listener) (n p : ℕ) (r : List (Item Message)) → Premises rest reach binding calls r → OfTheDesk rest reach binding calls n p → NoneAfter n r
+        → Near n r → Rel r l → Follows (sent n p) r (heardOf reach l (telegramIn n p))
     follow-next l n p r h s after bound v =
         on (heardWhole r n)
         (λ w.
@@ -329,31 +330,32 @@ module _ (rest limit : ℕ) {Message : Type 0} (binding : Binding Message) (call
 
     -- the listener shows the tables heard whole, and every answer is the one expected
     abbrev Following : List (Item Message) → Type 0
-    Following r = Rel r (listenerAfter rest limit binding calls r) × Answered rest limit binding calls r
+    Following r = Rel r (listenerAfter rest reach binding calls r) × Answered rest reach binding calls r
 
-    following : (r : List (Item Message)) → Premises rest limit binding calls r → Following r
+    following : (r : List (Item Message)) → Premises rest reach binding calls r → Following r
     unfolding listenerAfter wholes wasHeard Follows
     following r nothing = (record { shown = record { picture = fresh-picture; last = fresh-last; marks = refl }; hand = idle fresh-hand (λ n after part q. refl) }, tt)
     following r (in-turn {earlier} n p h s after bound) =
-        subst (Follows (sent n p) earlier) (sym (heard-as (listenerAfter rest limit binding calls earlier) n p s)) (follow-next (listenerAfter rest limit binding calls earlier) n p earlier h s after bound (following earlier h .0))
+        subst (Follows (sent n p) earlier) (sym (heard-as (listenerAfter rest reach binding calls earlier) n p s)) (follow-next (listenerAfter rest reach binding calls earlier) n p earlier h s after bound (following earlier h .0))
     following r (late {earlier} n p before h s newest) =
-        subst (Follows (sent n p) earlier) (sym (heard-as (listenerAfter rest limit binding calls earlier) n p s)) (follow-late (listenerAfter rest limit binding calls earlier) n p earlier before s newest (following earlier h .0))
+        subst (Follows (sent n p) earlier) (sym (heard-as (listenerAfter rest reach binding calls earlier) n p s)) (follow-late (listenerAfter rest reach binding calls earlier) n p earlier before s newest (following earlier h .0))
     following r (damaged {earlier} other number h e) =
-        let l : Listener = listenerAfter rest limit binding calls earlier in
+        let l : Listener = listenerAfter rest reach binding calls earlier in
         let v : Rel earlier l = following earlier h .0 in
-        subst (Follows (spoilt other) earlier) (sym (hear-refused limit l (binding .read other) number e)) (record { shown = v .shown; hand = hand-spoilt other earlier (l .hand) (v .hand) }, ap (λ t. refusedAs (numberOf t)) (sym e))
+        let refused : binding .read other .verdict ≡ Refused number = ruling-apart (binding .read other .verdict) (Refused number) e in
+        subst (Follows (spoilt other) earlier) (sym (hear-refused reach l (binding .read other) number refused)) (record { shown = v .shown; hand = hand-spoilt other earlier (l .hand) (v .hand) }, ap (λ t. refusedAs (numberOf t)) (sym refused))
 
-    pub shown : (r : List (Item Message)) → Premises rest limit binding calls r → Shown (wholes r) (listenerAfter rest limit binding calls r)
+    pub shown : (r : List (Item Message)) → Premises rest reach binding calls r → Shown (wholes r) (listenerAfter rest reach binding calls r)
     shown r h = following r h .0 .shown
 
-    pub answered : (r : List (Item Message)) → Premises rest limit binding calls r → Answered rest limit binding calls r
+    pub answered : (r : List (Item Message)) → Premises rest reach binding calls r → Answered rest reach binding calls r
     answered r h = following r h .1
 
     -- M-3e: whatever was lost before, a table that has been heard whole is the picture
-    shown-newest : (r : List (Item Message)) → Premises rest limit binding calls r → (n : ℕ) (before : List ℕ) → wholes r ≡ n ∷ before → listenerAfter rest limit binding calls r .picture ≡ T n
-    shown-newest r h n before newest = shown r h .picture ∙ ap (pictureOf rest limit binding calls) newest
+    shown-newest : (r : List (Item Message)) → Premises rest reach binding calls r → (n : ℕ) (before : List ℕ) → wholes r ≡ n ∷ before → listenerAfter rest reach binding calls r .picture ≡ T n
+    shown-newest r h n before newest = shown r h .picture ∙ ap (pictureOf rest reach binding calls) newest
 
-    pub right : (r : List (Item Message)) → Premises rest limit binding calls r → PutRight rest limit binding calls r
+    pub right : (r : List (Item Message)) → Premises rest reach binding calls r → PutRight rest reach binding calls r
     right r nothing = tt
     right r (in-turn {earlier} n p h s after bound) =
         λ w.

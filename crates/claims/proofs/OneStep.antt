@@ -14,8 +14,8 @@ use Rattle.order_list.specs.Lists.{stands, orderAt, orderCount, orderNamed}
 use Rattle.order_list.specs.declared.Order.{Order}
 use Rattle.places.specs.Places.{freePlace, placeAt, isLive}
 use Rattle.places.specs.declared.Place.{Place}
-use Rattle.orders.specs.Orders.{listRefusal}
-use Rattle.orders.proofs.Lists.{Fair, fair, listed-self}
+use Rattle.orders.specs.Orders.{listRefusal, Fair}
+use Rattle.orders.proofs.Lists.{fair, listed-self}
 use Rattle.resting.specs.Rests.{isResting}
 use Rattle.desk.specs.Desks.{baseRest as eight, freshWith}
 use Rattle.desk.specs.Runs.{deskRun, AllAccepted, InNewest, EndedAgo, OneNew}

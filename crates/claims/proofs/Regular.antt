@@ -29,17 +29,17 @@ none-after n m [] b h = tt
 none-after n m (sent k p ∷ r) (a, b) h = (omega arith, none-after n m r b h)
 none-after n m (spoilt message ∷ r) b h = none-after n m r b h
 
-module _ (rest limit : ℕ) {Message : Type 0} (binding : Binding Message) (calls : List (List ℕ)) (all : (t : Telegram) → binding .Carries t) where
+module _ (rest reach : ℕ) {Message : Type 0} (binding : Binding Message) (calls : List (List ℕ)) (all : (t : Telegram) → binding .CanCarry t) where
   -- some packets of step n, heard after other tables
   record Part (n : ℕ) (whole : List ℕ) (packet : ℕ → Bool) (r : List (Item Message)) : Type 0 where
-    premises : Premises rest limit binding calls r
+    premises : Premises rest reach binding calls r
     after : NoneAfter n r
     same : wholes r ≡ whole
     bound : n ≤ newestOr (firstOr n r) whole + farthest
     known : (q : ℕ) → wasHeard r n q ≡ packet q
 
   module _ {n : ℕ} {whole : List ℕ} {packet : ℕ → Bool} {r : List (Item Message)} (part : Part n whole packet r) (made : n ≤ stepsMade rest calls) (p : ℕ) (low : 3 ≤ p) (high : p ≤ 7) where
-    heard-next : Premises rest limit binding calls (sent n p ∷ r)
+    heard-next : Premises rest reach binding calls (sent n p ∷ r)
     heard-next = in-turn n p (part .premises) (made, low, high, all (packetOf (deskOf rest calls n) p)) (part .after) (rw (part .same) (part .bound))
 
     known-next : (q : ℕ) → wasHeard (sent n p ∷ r) n q ≡ also p packet q
@@ -58,7 +58,7 @@ module _ (rest limit : ℕ) {Message : Type 0} (binding : Binding Message) (call
 
     -- the fifth
     part-last : five packet ≡ false → five (also p packet) ≡ true
-        → Premises rest limit binding calls (sent n p ∷ r) × NoneAfter n (sent n p ∷ r) × (wholes (sent n p ∷ r) ≡ n ∷ whole)
+        → Premises rest reach binding calls (sent n p ∷ r) × NoneAfter n (sent n p ∷ r) × (wholes (sent n p ∷ r) ≡ n ∷ whole)
     part-last few full = (
       heard-next,
       (omega arith, part .after),
@@ -67,7 +67,7 @@ module _ (rest limit : ℕ) {Message : Type 0} (binding : Binding Message) (call
 
   -- a whole table more
   fifth : (n : ℕ) (whole : List ℕ) (r : List (Item Message)) → n ≤ stepsMade rest calls → Part n whole (λ q. false) r
-      → Premises rest limit binding calls (fiveOf n r) × NoneAfter n (fiveOf n r) × (wholes (fiveOf n r) ≡ n ∷ whole)
+      → Premises rest reach binding calls (fiveOf n r) × NoneAfter n (fiveOf n r) × (wholes (fiveOf n r) ≡ n ∷ whole)
   unfolding howMany fold
   fifth n whole r made part =
       let p3 = part-more part made 3 (omega arith) (omega arith) refl in
@@ -79,7 +79,7 @@ module _ (rest limit : ℕ) {Message : Type 0} (binding : Binding Message) (call
   abbrev Met : List ℕ → Type 0
   Met [] = Unit
   Met (n ∷ before) =
-      Premises rest limit binding calls (wholly Message (n ∷ before)) × NoneAfter n (wholly Message (n ∷ before)) × (wholes (wholly Message (n ∷ before)) ≡ n ∷ before)
+      Premises rest reach binding calls (wholly Message (n ∷ before)) × NoneAfter n (wholly Message (n ∷ before)) × (wholes (wholly Message (n ∷ before)) ≡ n ∷ before)
 
   met : (steps : List ℕ) → Spaced (stepsMade rest calls) steps → Met steps
   unfolding wholly wholes wasHeard
@@ -101,8 +101,8 @@ module _ (rest limit : ℕ) {Message : Type 0} (binding : Binding Message) (call
 
   -- the premises are met, and the tables of these steps are those heard whole
   pub regular : (n : ℕ) (before : List ℕ) → Spaced (stepsMade rest calls) (n ∷ before)
-      → Premises rest limit binding calls (wholly Message (n ∷ before)) × (wholes (wholly Message (n ∷ before)) ≡ n ∷ before)
+      → Premises rest reach binding calls (wholly Message (n ∷ before)) × (wholes (wholly Message (n ∷ before)) ≡ n ∷ before)
   regular n before s = go (met (n ∷ before) s)
     where
-      go : Met (n ∷ before) → Premises rest limit binding calls (wholly Message (n ∷ before)) × (wholes (wholly Message (n ∷ before)) ≡ n ∷ before)
+      go : Met (n ∷ before) → Premises rest reach binding calls (wholly Message (n ∷ before)) × (wholes (wholly Message (n ∷ before)) ≡ n ∷ before)
       go (premises, after, same) = (premises, same)

@@ -40,12 +40,12 @@ use Rattle.claims.proofs.OneStep.{fresh-says, ending-of, one-step}
 -- R-26: the calls of a fresh desk
 made-calls : {desk : Desk} → Made desk → (calls : List (List ℕ)) × (desk ≡ deskAfter eight calls)
 unfolding deskAfter
-made-calls Made.made = ([], refl)
+made-calls Made.made-fresh = ([], refl)
 made-calls (called {desk} m list) = given (made-calls m) (λ (calls, e). (list ∷ calls, ap (λ (d : Desk). acceptOf eight d list .desk) e))
 
 calls-made : (calls : List (List ℕ)) → Made (deskAfter eight calls)
 unfolding deskAfter
-calls-made [] = Made.made
+calls-made [] = Made.made-fresh
 calls-made (list ∷ calls) = called (calls-made calls) list
 
 -- D-02: by the contract, an accepted list makes one step

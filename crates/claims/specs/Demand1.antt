@@ -18,7 +18,7 @@ use Rattle.signals.specs.Signals.{missedBy}
 use Rattle.kit.specs.Asserted as Asserted
 use Rattle.kit.specs.Contracts.{OneAnswer}
 use Rattle.kit.specs.Ladder.{Decides, NoneHolds}
-use Rattle.wire.specs.declared.verdicts.Verdict.the-variants.{Refused}
+use Rattle.wire.specs.Verdicts.{ruledRefused, rulingOf}
 use Rattle.telegram.specs.Telegrams.{readRows, writeRows}
 use Rattle.orders.specs.Orders.{listRows}
 use Rattle.listener.specs.Answers.{refusedAs, toldOf}
@@ -42,16 +42,16 @@ pub record Lists : Type 0 where
   -- M-1a: there is one answer and one next desk
   pub defined : OneAnswer accept.ended accept.Reads.Learnt
   -- M-1d, R-01 to R-08, R-18: a list is refused under the number of document 01
-  pub refused : OfAccept (λ desk list answer. RefusedBy (listRows (desk .places) list) Refused (answer .verdict))
+  pub refused : OfAccept (λ desk list answer. RefusedBy (listRows (desk .places) list) ruledRefused (rulingOf (answer .verdict)))
   -- M-1f, D-18, R-24: a refused list changes nothing of the desk
-  pub unchanged : OfAccept (λ desk list answer. (number : ℕ) → answer .verdict ≡ Refused number → answer .desk ≡ desk)
+  pub unchanged : OfAccept (λ desk list answer. (number : ℕ) → rulingOf (answer .verdict) ≡ ruledRefused number → answer .desk ≡ desk)
 
 -- ---- "telegram": `telegram_reader::read(bytes)`, and `Listener::hear(listener, telegram)`
 
 pub record Telegrams : Type 0 where
   -- M-1b, M-1d, R-10 to R-14, R-20: reading
   pub read-defined : OneAnswer read.ended read.Reads.Learnt
-  pub read-refused : OfRead (λ bytes reading. RefusedBy (readRows bytes) Refused (reading .verdict))
+  pub read-refused : OfRead (λ bytes reading. RefusedBy (readRows bytes) ruledRefused (rulingOf (reading .verdict)))
   -- M-1b, M-1d, R-10 to R-15, R-20, R-21: hearing
   pub defined : OneAnswer hear.ended hear.Reads.Learnt
   pub refused : OfHear (λ listener telegram heard. RefusedBy (hearRows listener telegram) refusedAs (toldOf (heard .answer)))
@@ -67,7 +67,7 @@ pub record TrainTelegrams : Type 0 where
   -- M-1d, R-10, R-16, R-17, R-22: a telegram is refused under the number of document 01
   pub refused : OfUpdate (λ signals present telegram updated. present ≡ true → RefusedBy (trainRows telegram) refusalUnder (notedOf (updated .answer)))
   -- R-23, C-07: and it is accepted when no row holds, and never else, so that no reader may miss a good one
-  pub accepted : OfUpdate (λ signals present telegram updated. present ≡ true → (notedOf (updated .answer) ≡ acceptance) ↔ NoneHolds (trainRows telegram))
+  pub accepted-when : OfUpdate (λ signals present telegram updated. present ≡ true → (notedOf (updated .answer) ≡ acceptance) ↔ NoneHolds (trainRows telegram))
   -- S-13, S-14: a call with none is a miss, and is not refused
   pub absent : OfUpdate (λ signals present telegram updated. present ≡ false → (notedOf (updated .answer) ≡ absence) × (updated .signals ≡ missedBy signals))
   -- M-1f, S-13, S-20, R-24: a refused one is a miss, and changes nothing else
@@ -77,7 +77,7 @@ pub record TrainTelegrams : Type 0 where
 pub record TrainTelegramsLent : Type 2 where
   pub defined : Asserted.OneAnswerLent update-lent.ended (λ M 𝓤. update-lent.clauses 𝓤)
   pub refused : OfUpdateLent (λ signals present telegram answer after. present ≡ true → RefusedBy (trainRows telegram) refusalUnder (notedOf answer))
-  pub accepted : OfUpdateLent (λ signals present telegram answer after. present ≡ true → (notedOf answer ≡ acceptance) ↔ NoneHolds (trainRows telegram))
+  pub accepted-when : OfUpdateLent (λ signals present telegram answer after. present ≡ true → (notedOf answer ≡ acceptance) ↔ NoneHolds (trainRows telegram))
   pub absent : OfUpdateLent (λ signals present telegram answer after. present ≡ false → (notedOf answer ≡ absence) × (after ≡ missedBy signals))
   pub missed : OfUpdateLent (λ signals present telegram answer after. (number : ℕ) → notedOf answer ≡ refusalUnder number → after ≡ missedBy signals)
 
@@ -87,9 +87,9 @@ pub record Buffers : Type 0 where
   -- M-1c: there is one verdict, and one last value of the buffer
   pub defined : OneAnswer write.ended write.Reads.Learnt
   -- M-1d, R-09, R-10, R-19: it is refused under the number of document 01
-  pub refused : OfWrite (λ desk packet buffer verdict after. RefusedBy (writeRows packet (length buffer)) Refused verdict)
+  pub refused : OfWrite (λ desk packet buffer verdict after. RefusedBy (writeRows packet (length buffer)) ruledRefused (rulingOf verdict))
   -- M-1e, R-25: a refused call changes no byte
-  pub unchanged : OfWrite (λ desk packet buffer verdict after. (number : ℕ) → verdict ≡ Refused number → after ≡ buffer)
+  pub unchanged : OfWrite (λ desk packet buffer verdict after. (number : ℕ) → rulingOf verdict ≡ ruledRefused number → after ≡ buffer)
 
 -- ---- the demand
 

@@ -15,7 +15,7 @@ use mathlib.Core.List.{List, [], _∷_}
 use lib.ListN.{length, getD}
 use Rattle.kit.specs.Bytes.{Bytes}
 use Rattle.wire.specs.Distances.{InRange, distanceWord}
-use Rattle.wire.specs.declared.verdicts.Verdict.the-variants.{Accepted}
+use Rattle.wire.specs.Verdicts.{ruledAccepted, rulingOf}
 use Rattle.condition.specs.Slots.{MayHold, codedOf, settled}
 use Rattle.condition.specs.declared.slots.Coded.{Coded}
 use Rattle.telegram.specs.Sendable.{slotOn, isIdle}
@@ -44,9 +44,9 @@ pub record Codes (taken : Coded → Coded) (bytes : List ℕ) (t : Telegram) : T
 
 pub record AsDocument01Says : Type 2 where
   -- M-2a: what a desk writes codes its telegram
-  pub written : OfWrite (λ desk packet buffer verdict after. Made desk → verdict ≡ Accepted → Codes (λ c. c) after (packetOf desk packet))
+  pub writes : OfWrite (λ desk packet buffer verdict after. Made desk → rulingOf verdict ≡ ruledAccepted → Codes (λ c. c) after (packetOf desk packet))
   -- M-2b: what is read from bytes is the telegram that they code, a second word that is not considered taken as zero (K-11)
-  pub read : OfRead (λ bytes reading. reading .verdict ≡ Accepted → Codes settled bytes (reading .telegram))
+  pub reads-so : OfRead (λ bytes reading. rulingOf (reading .verdict) ≡ ruledAccepted → Codes settled bytes (reading .telegram))
   -- K-06, K-07: a word of 16 bits is metres from -32,767 to 32,767 or no value, and each of these is one word
   pub distances : OfDistance (λ word distance. word < 0x10000 → InRange distance × (distanceWord distance ≡ word))
   -- M-2c: each signal has the state whose code stands in its own bits; S-01: of the record that is lent, too
@@ -57,12 +57,12 @@ pub record AsDocument01Says : Type 2 where
 
 pub record ReadBack : Type 0 where
   -- M-2d: what a desk wrote is read as it was, in each of the five packets
-  pub packets : OfWrite (λ desk packet buffer verdict after. Made desk → verdict ≡ Accepted
-      → OfRead (λ bytes reading. bytes ≡ after → reading ≡ record { verdict = Accepted; telegram = packetOf desk packet }))
+  pub each-packet : OfWrite (λ desk packet buffer verdict after. Made desk → rulingOf verdict ≡ ruledAccepted
+      → OfRead (λ bytes reading. bytes ≡ after → (rulingOf (reading .verdict) ≡ ruledAccepted) × (reading .telegram ≡ packetOf desk packet)))
   -- T-04: and they carry the table: slot i is place i % 4 of packet 3 + i / 4
   pub table : OfTable (λ desk table. (i : ℕ) → i < 20 → slotOn (packetOf desk (3 + i / 4)) (i % 4) ≡ tableSlot table i)
   -- K-12: what was read and is written again has the same bytes, but for those of a second word that is not considered, which are zero
-  pub again : OfRead (λ bytes reading. Bytes bytes → reading .verdict ≡ Accepted
+  pub again : OfRead (λ bytes reading. Bytes bytes → rulingOf (reading .verdict) ≡ ruledAccepted
       → OfWriteTelegram (λ telegram buffer verdict after. telegram ≡ reading .telegram → length buffer ≡ 26
       → (i : ℕ) → i < 26 → getD after i 0 ≡ cond (isIdle bytes i) 0 (getD bytes i 0)))
 

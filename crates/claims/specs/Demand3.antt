@@ -7,16 +7,16 @@
 --   table counts as an empty list. However long the loss within that bound, the next whole table puts the vehicle right."
 --
 -- It is said here of the fleet's figures, eight and eight, and of its telegrams of 26 bytes: each phrase in plain words, over what states
--- it. The text of each definition that is named stands in one of three files: Calls.antt has the desk, its calls and the tables of its
--- steps; Hearings.antt what was heard, and which tables were heard whole; Ends.antt both ends, phrase by phrase, over any two figures and
--- any binding. proofs/Demand3.antt proves it.
+-- it. Where the text of a definition that is named stands: Calls.antt has the desk, its calls and the tables of its steps; Hearings.antt
+-- what was heard, and which tables were heard whole; Ends.antt both ends, phrase by phrase, over any two figures and any binding;
+-- Regular.antt runs that can be heard; what a desk, a telegram and a listener are, the crates of these names. proofs/Demand3.antt proves it.
 use Prim.Native.Nat.{ℕ, _≤_}
 use mathlib.Core.Path.{_≡_}
 use mathlib.Core.Logic.{_↔_}
 use mathlib.Core.Bool.{true}
 use mathlib.Core.List.{List, _∷_}
 use lib.ListN.{length}
-use Rattle.wire.specs.declared.verdicts.Verdict.the-variants.{Accepted}
+use Rattle.wire.specs.Verdicts.{ruledAccepted, rulingOf}
 use Rattle.telegram.specs.Telegrams.{bytesOf, readOf}
 use Rattle.desk.specs.Desks.{baseRest as eight, freshWith, acceptOf, packetOf, Made}
 use Rattle.listener.specs.Answers.{hearingOf}
@@ -34,7 +34,7 @@ use Rattle.claims.specs.Regular.{wholly, Spaced}
 -- the listener carries a condition. M-2a, M-2b: a telegram is sent as its 26 bytes, whatever it says, and bytes are read as the reader
 -- reads them.
 abbrev pub fleetBinding : Binding (List ℕ)
-fleetBinding = record { write = bytesOf; read = readOf; Carries = λ telegram. Unit }
+fleetBinding = record { write = bytesOf; read = readOf; CanCarry = λ telegram. Unit }
 
 -- a run: the lists that were handed to a desk, and what a listener heard of the desk's telegrams, the newest first in both
 module _ (calls : List (List ℕ)) (heard : List (Item (List ℕ))) where
@@ -100,9 +100,9 @@ pub record TheFunctions : Type 0 where
   -- R-26: what `accept` requires of a desk is so of the desk of any calls
   pub made : (calls : List (List ℕ)) → Made (deskAfter eight calls)
   -- M-2a: what the buffer held before does not matter: an accepted call leaves the bytes of the telegram, and these alone
-  pub writes : OfWrite (λ desk packet buffer verdict after. verdict ≡ Accepted → after ≡ fleetBinding .write (packetOf desk packet))
+  pub writes : OfWrite (λ desk packet buffer verdict after. rulingOf verdict ≡ ruledAccepted → after ≡ fleetBinding .write (packetOf desk packet))
   -- R-09, R-10: each of the five packets is accepted into a buffer of 26 bytes
-  pub writes-five : OfWrite (λ desk packet buffer verdict after. 3 ≤ packet → packet ≤ 7 → length buffer ≡ 26 → verdict ≡ Accepted)
+  pub writes-five : OfWrite (λ desk packet buffer verdict after. 3 ≤ packet → packet ≤ 7 → length buffer ≡ 26 → rulingOf verdict ≡ ruledAccepted)
   pub fresh-listener : OfFreshListener (λ listener. listener ≡ freshListener)
   pub hears : OfHear (λ listener telegram heard. hearingOf heard ≡ hearOf carries listener (fleetBinding .read telegram))
 

@@ -13,9 +13,8 @@ use mathlib.Core.List.{List, [], _∷_}
 use lib.ListN.{replicate}
 use Rattle.condition.specs.Slots.{emptySlot, slotCount}
 use Rattle.wire.specs.Steps.{steps}
-use Rattle.wire.specs.Verdicts.{numberOf}
+use Rattle.wire.specs.Verdicts.{ruledRefused, rulingOf, numberOf}
 use Rattle.condition.specs.declared.slots.Slot.{Slot}
-use Rattle.wire.specs.declared.verdicts.Verdict.the-variants.{Refused}
 use Rattle.telegram.specs.declared.Reading.{Reading}
 use Rattle.telegram.specs.declared.Telegram.{Telegram}
 use Rattle.desk.specs.Desks.{packetOf}
@@ -32,10 +31,10 @@ use Rattle.claims.specs.Hearings.{Item, sent, spoilt, wasHeard, heardWho
 pub record Binding (Message : Type 0) : Type 1 where
   pub write : Telegram → Message
   pub read : Message → Reading
-  pub Carries : Telegram → Type 0
+  pub CanCarry : Telegram → Type 0
 
 -- the desk's figure and the listener's, the binding, and the calls of the desk, the newest first
-module _ (rest limit : ℕ) {Message : Type 0} (binding : Binding Message) (calls : List (List ℕ)) where
+module _ (rest reach : ℕ) {Message : Type 0} (binding : Binding Message) (calls : List (List ℕ)) where
   -- ---- "Start both ends fresh."
 
   -- D-04, W-03: what is heard as packet p of step n is what the desk of that step wrote
@@ -46,27 +45,27 @@ module _ (rest limit : ℕ) {Message : Type 0} (binding : Binding Message) (call
   -- A-20, M-1b: the listener after what was heard, the newest first
   unfoldable pub listenerAfter : List (Item Message) → Listener
   listenerAfter [] = freshListener
-  listenerAfter (item ∷ earlier) = hearOf limit (listenerAfter earlier) (binding .read (messageOf item)) .listener
+  listenerAfter (item ∷ earlier) = hearOf reach (listenerAfter earlier) (binding .read (messageOf item)) .listener
 
   -- M-1b: and what it answers to one telegram more
   abbrev pub answerTo : Item Message → List (Item Message) → Told
-  answerTo item earlier = hearOf limit (listenerAfter earlier) (binding .read (messageOf item)) .told
+  answerTo item earlier = hearOf reach (listenerAfter earlier) (binding .read (messageOf item)) .told
 
   -- ---- "Let telegrams be lost or repeated, step order kept, each one heard coming at most 8,191 steps after the last table heard
   -- whole (before any, after the first telegram heard)."
 
   -- D-02, T-01: what can be heard: one of the five packets of a step that the desk has made
-  abbrev pub Sent : ℕ → ℕ → Type 0
-  Sent n p = (n ≤ stepsMade rest calls) × (3 ≤ p) × (p ≤ 7) × binding .Carries (packetOf (deskOf rest calls n) p)
+  abbrev pub OfTheDesk : ℕ → ℕ → Type 0
+  OfTheDesk n p = (n ≤ stepsMade rest calls) × (3 ≤ p) × (p ≤ 7) × binding .CanCarry (packetOf (deskOf rest calls n) p)
 
   -- A-24: that a sequence was heard so. Nothing asks that a telegram be heard at all, and none is forbidden to come again. `late` and
   -- `damaged` allow more than the user does: repeats of the last whole table at any later time, and anywhere what the reader refuses.
   pub data Premises : List (Item Message) → Type 0 where
     nothing : Premises []
-    in-turn : {earlier : List (Item Message)} (n p : ℕ) → Premises earlier → Sent n p → NoneAfter n earlier → Near n earlier → Premises (sent n p ∷ earlier)
-    late : {earlier : List (Item Message)} (n p : ℕ) (before : List ℕ) → Premises earlier → Sent n p → wholes earlier ≡ n ∷ before
+    in-turn : {earlier : List (Item Message)} (n p : ℕ) → Premises earlier → OfTheDesk n p → NoneAfter n earlier → Near n earlier → Premises (sent n p ∷ earlier)
+    late : {earlier : List (Item Message)} (n p : ℕ) (before : List ℕ) → Premises earlier → OfTheDesk n p → wholes earlier ≡ n ∷ before
         → Premises (sent n p ∷ earlier)
-    damaged : {earlier : List (Item Message)} (other : Message) (number : ℕ) → Premises earlier → binding .read other .verdict ≡ Refused number
+    damaged : {earlier : List (Item Message)} (other : Message) (number : ℕ) → Premises earlier → rulingOf (binding .read other .verdict) ≡ ruledRefused number
         → Premises (spoilt other ∷ earlier)
 
   -- ---- "Then each table heard whole becomes the vehicle's picture exactly, and until then the previous picture stands."
@@ -90,7 +89,7 @@ module _ (rest limit : ℕ) {Message : Type 0} (binding : Binding Message) (call
   IsCarriedOn (n ∷ []) i = ⊥
   IsCarriedOn (n ∷ m ∷ before) i =
       let order = orderIn rest calls n i in
-      (1 ≤ order) × (n ≤ m + limit) × StoodFrom rest calls order m n
+      (1 ≤ order) × (n ≤ m + reach) × StoodFrom rest calls order m n
 
   -- ---- "However long the loss within that bound, the next whole table puts the vehicle right."
 
@@ -119,11 +118,3 @@ module _ (rest limit : ℕ) {Message : Type 0} (binding : Binding Message) (call
   abbrev pub Answered : List (Item Message) → Type 0
   Answered [] = Unit
   Answered (item ∷ earlier) = answerTo item earlier ≡ expected item earlier
-
-  -- M-3: all that is claimed after a heard sequence, and so after each beginning of it
-  pub record Claim (heard : List (Item Message)) : Type 0 where
-    pub picture : listenerAfter heard .picture ≡ pictureOf (wholes heard)
-    pub last : listenerAfter heard .last ≡ lastOf (wholes heard)
-    pub carried : (i : ℕ) → (markAt (listenerAfter heard .marks) i ≡ true) ↔ IsCarriedOn (wholes heard) i
-    pub right : PutRight heard
-    pub answered : Answered heard

@@ -12,8 +12,8 @@
 --
 -- Spelt out with a buffer. `OfWrite Such` of `desk_writer::write(desk, packet, buffer)` says: for every desk, packet number and buffer, of
 -- the verdict that the contract gives and of what it says is in the buffer afterwards, `Such desk packet buffer verdict after`
--- (`write-says`). So it is for each line below, with the theorem of its name there; of a lent record in every model of the machine
--- (kit/specs/Asserted.antt).
+-- (`write-says`). So it is for each line below, with the theorem of its name there. Of a lent record, `update-lent-says` proves that the
+-- plain sentence is enough for the promise; that the promise says no less is for readers of kit/specs/Asserted.antt.
 --
 -- The right sides need no reading for that. They pick, out of what the checker has of a function, what `Such` is about: `ended` is what
 -- the function is handed and what it gives, `Learnt` its contract, `κs` for how long each thing is lent, `lasts` the last values.

@@ -10,6 +10,7 @@ use lib.ListN.{length, set}
 use lib.Seq.{getD-set-same}
 use native.Mathlib.Nat.{add-zero}
 use native.Mathlib.Omega.{arith}
+use Rattle.orders.specs.Orders.{Fair}
 use Rattle.kit.specs.Member.{member}
 use Rattle.kit.proofs.Cases.{on, given}
 use Rattle.kit.proofs.Loops.{fold-none, fold-more}
@@ -18,7 +19,6 @@ use Rattle.order_list.specs.Lists.{stands, orderAt, orderCount}
 use Rattle.places.specs.Places.{freePlace, placeAt, lowestFree, isLive}
 use Rattle.places.specs.declared.Place.{Place}
 use Rattle.places.proofs.Live.{free-there}
-use Rattle.orders.proofs.Lists.{Fair}
 use Rattle.numbers.specs.Numbers.{nextNumber}
 use Rattle.numbers.proofs.Search.{FirstPermitted, search-found, number-range}
 use Rattle.arriving.specs.Arriving.{seated, seatedAll}

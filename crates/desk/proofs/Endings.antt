@@ -5,12 +5,12 @@ use mathlib.Core.Bool.{false}
 use mathlib.Core.List.{List, map}
 use lib.ListN.{getD, List·getD-map}
 use native.Mathlib.Omega.{arith}
+use Rattle.orders.specs.Orders.{Fair}
 use Rattle.kit.proofs.Cases.{on, given}
 use Rattle.order_list.specs.Lists.{orderCount, listedAt}
 use Rattle.places.specs.Places.{freePlace, placeAt}
 use Rattle.places.specs.declared.Place.{Place}
 use Rattle.order_list.proofs.Listed.{listed-there}
-use Rattle.orders.proofs.Lists.{Fair}
 use Rattle.desk.specs.Steps.{stays, keptPlace}
 use Rattle.leaving.proofs.Left.{kept-ends}
 

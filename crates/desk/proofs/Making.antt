@@ -1,4 +1,4 @@
--- A desk that a making and earlier calls gave is the desk of a run of accepted lists, and so it is sound (READINGS 3.4).
+-- A desk that a making and earlier calls gave is the desk of a run of accepted lists, and so it is sound.
 use Prim.Native.Nat.{ℕ}
 use mathlib.Core.Path.{_≡_, refl, sym, ap, _∙_, subst}
 use mathlib.Core.List.{List, [], _∷_}
@@ -10,7 +10,7 @@ use Rattle.wire.proofs.Answers.{verdict-accepted, verdict-refused}
 use Rattle.wire.specs.declared.verdicts.Verdict.the-variants.{Accepted as accepted, Refused}
 use Rattle.orders.specs.Orders.{listRefusal}
 use Rattle.desk.specs.declared.Desk.{Desk}
-use Rattle.desk.specs.Desks.{baseRest, acceptOf, Made, made, called}
+use Rattle.desk.specs.Desks.{baseRest, acceptOf, Made, made-fresh, called}
 use Rattle.desk.specs.Runs.{deskRun, AllAccepted}
 use Rattle.desk.specs.Steps.{stepOf}
 use Rattle.desk.proofs.Stepping.{Sound}
@@ -30,7 +30,7 @@ module _ (figure : ℕ) (desk : Desk) (list : List ℕ) where
 -- the accepted lists of a desk that was made
 pub made-run : {desk : Desk} → Made desk → (h : List (List ℕ)) × AllAccepted baseRest baseRest h × (desk ≡ deskRun baseRest baseRest h)
 unfolding deskRun
-made-run made = ([], tt, refl)
+made-run made-fresh = ([], tt, refl)
 made-run (called {desk} m list) = go (made-run m)
   where
     go : (h : List (List ℕ)) × AllAccepted baseRest baseRest h × (desk ≡ deskRun baseRest baseRest h)

@@ -7,6 +7,7 @@ use mathlib.Core.Bool.{Bool, true, false}
 use mathlib.Core.List.{List, [], _∷_, map}
 use lib.ListN.{length}
 use native.Mathlib.Omega.{arith}
+use Rattle.orders.specs.Orders.{Fair}
 use Rattle.kit.specs.Member.{member}
 use Rattle.kit.proofs.Cases.{on, clash, given}
 use Rattle.condition.specs.Slots.{slotCount}
@@ -15,7 +16,7 @@ use Rattle.order_list.proofs.Listed.{listed-when}
 use Rattle.places.specs.Places.{freePlace, placeAt, placeOf, lowestFree, isLive}
 use Rattle.places.specs.declared.Place.{Place}
 use Rattle.places.proofs.Live.{live-there, live-when}
-use Rattle.orders.proofs.Lists.{Fair, fair}
+use Rattle.orders.proofs.Lists.{fair}
 use Rattle.resting.specs.Rests.{isResting}
 use Rattle.resting.specs.declared.Ended.{Ended}
 use Rattle.resting.proofs.Rested.{covers-resting}

@@ -12,6 +12,7 @@ use lib.ListN.{length, getD, set, length-set, List·getD-eq-default}
 use lib.Seq.{getD-set-same, getD-set-other}
 use native.Mathlib.Omega.{arith}
 use borrow.Author.Tests.{eqb-true, eqb-false, ltb-true, ltb-false}
+use Rattle.orders.specs.Orders.{Fair}
 use Rattle.kit.specs.Loops.{fold}
 use Rattle.kit.specs.Member.{member}
 use Rattle.kit.proofs.Cases.{on, given}
@@ -28,7 +29,6 @@ use Rattle.order_list.specs.declared.Order.{Order}
 use Rattle.places.specs.declared.Place.{Place}
 use Rattle.order_list.proofs.Listed.{listed-there, listed-when}
 use Rattle.places.proofs.Live.{live-there, live-none, live-when, free-there, free-none}
-use Rattle.orders.proofs.Lists.{Fair}
 use Rattle.numbers.specs.Numbers.{nextNumber}
 use Rattle.numbers.proofs.Search.{number-range, number-idle, number-rested}
 use Rattle.leaving.specs.Leaving.{bodyIn}
@@ -40,7 +40,7 @@ use Rattle.arriving.proofs.Seated.{seated-live, seated-new, newPlace}
 abbrev pub Distinct : (Place → ℕ) → List Place → Type 0
 Distinct of places = (i j : ℕ) → 1 ≤ of (placeAt places i) → of (placeAt places i) ≡ of (placeAt places j) → i ≡ j
 
--- what is true of a desk's places (READINGS 3.4, d1 to d3)
+-- what is true of a desk's places
 pub record Orderly (places : List Place) : Type 0 where
   pub twenty : length places ≡ slotCount
   pub free : (i : ℕ) → placeAt places i .order ≡ 0 → placeAt places i ≡ freePlace

@@ -7,6 +7,7 @@ use mathlib.Core.Bool.{true}
 use mathlib.Core.List.{List, map}
 use lib.ListN.{length-map}
 use native.Mathlib.Omega.{arith}
+use Rattle.orders.specs.Orders.{Fair}
 use Rattle.kit.proofs.Cases.{on}
 use Rattle.condition.specs.Slots.{codedOf, MayHold}
 use Rattle.order_list.specs.Lists.{stands, orderNamed, orderAt, orderCount, listedAt}
@@ -14,7 +15,7 @@ use Rattle.places.specs.Places.{freePlace, placeAt, placeOf, isLive}
 use Rattle.places.specs.declared.Place.{Place}
 use Rattle.order_list.proofs.Listed.{listed-there}
 use Rattle.places.proofs.Live.{live-when}
-use Rattle.orders.proofs.Lists.{Fair, type-kept}
+use Rattle.orders.proofs.Lists.{type-kept}
 use Rattle.leaving.specs.Leaving.{bodyIn}
 use Rattle.desk.specs.Steps.{stays, keptPlace}
 use Rattle.leaving.proofs.Left.{kept-stays, kept-ends}

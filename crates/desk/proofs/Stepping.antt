@@ -10,6 +10,7 @@ use lib.Dec.{ltb}
 use lib.ListN.{length, length-map, List·getD-eq-default}
 use native.Mathlib.Omega.{arith}
 use borrow.Author.Tests.{ltb-true, ltb-false}
+use Rattle.orders.specs.Orders.{Fair}
 use Rattle.kit.proofs.Cases.{on, clash, given}
 use Rattle.wire.specs.Steps.{steps, gapOf}
 use Rattle.wire.proofs.Round.{gap-round, gap-only}
@@ -19,7 +20,7 @@ use Rattle.condition.specs.Slots.{slotCount}
 use Rattle.places.specs.declared.Place.{Place}
 use Rattle.order_list.proofs.Listed.{listed-there, listed-when}
 use Rattle.places.proofs.Live.{live-there}
-use Rattle.orders.proofs.Lists.{listed-self, Fair}
+use Rattle.orders.proofs.Lists.{listed-self}
 use Rattle.resting.specs.Rests.{noneEnded, endedAt, isResting}
 use Rattle.resting.specs.declared.Ended.{Ended}
 use Rattle.resting.proofs.Rested.{covers-resting, resting-when}
@@ -32,7 +33,7 @@ use Rattle.desk.proofs.Endings.{kept-at}
 use Rattle.desk.proofs.Seating.{Orderly, inside, New, After, after, RoomForAll, room-for-all}
 use Rattle.desk.proofs.Staying.{Stayed, case, kept-orderly, kept-listed}
 
--- what is true of a desk that was made (READINGS 3.4, d1 to d6): an entry of the ended numbers in row k, from 0, ended k steps ago
+-- what is true of a desk that was made: an entry of the ended numbers in row k, from 0, ended k steps ago
 pub record Sound (rows : ℕ) (desk : Desk) : Type 0 where
   pub orderly : Orderly (desk .places)
   pub kept : length (desk .ended) ≡ slotCount * rows

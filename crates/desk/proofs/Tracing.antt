@@ -1,4 +1,4 @@
--- What becomes of a number over several steps (READINGS 3.4, lemmas D-a to D-d).
+-- What becomes of a number over several steps.
 --
 -- A number that an order has is that order's while the order stands in the lists; when the order ends, the number is in no table
 -- for as many steps as the rest, the one in which it ended among them.
@@ -9,6 +9,7 @@ use mathlib.Core.Bool.{Bool, true, false}
 use mathlib.Core.List.{List, [], _∷_, _++_}
 use lib.ListN.{length, length-replicate}
 use native.Mathlib.Omega.{arith}
+use Rattle.orders.specs.Orders.{Fair}
 use Rattle.kit.proofs.Cases.{on, clash, given}
 use Rattle.kit.proofs.Maps.{replicate-at}
 use Rattle.condition.specs.Slots.{codedOf, slotCount}
@@ -17,7 +18,7 @@ use Rattle.order_list.specs.Lists.{stands}
 use Rattle.places.specs.Places.{freePlace, placeAt, placeOf}
 use Rattle.places.specs.declared.Place.{Place}
 use Rattle.places.proofs.Live.{live-there, live-when}
-use Rattle.orders.proofs.Lists.{Fair, fair}
+use Rattle.orders.proofs.Lists.{fair}
 use Rattle.resting.specs.Rests.{noneEnded, endedAt}
 use Rattle.resting.specs.declared.Ended.{Ended}
 use Rattle.desk.specs.declared.Desk.{Desk}

@@ -10,6 +10,7 @@ use lib.ListN.{length, set}
 use lib.Seq.{getD-set-same, getD-set-other}
 use native.Mathlib.Omega.{arith}
 use borrow.Author.Tests.{eqb-true, eqb-false}
+use Rattle.orders.specs.Orders.{Fair}
 use Rattle.kit.specs.Loops.{fold}
 use Rattle.kit.proofs.Cases.{on, clash, given}
 use Rattle.kit.proofs.Loops.{fold-none, fold-more}
@@ -19,7 +20,7 @@ use Rattle.condition.specs.Slots.{slotCount}
 use Rattle.places.specs.declared.Place.{Place}
 use Rattle.order_list.proofs.Listed.{listed-when}
 use Rattle.places.proofs.Live.{live-there, live-when, free-there}
-use Rattle.orders.proofs.Lists.{Fair, fair}
+use Rattle.orders.proofs.Lists.{fair}
 use Rattle.resting.specs.Rests.{isResting}
 use Rattle.numbers.specs.Numbers.{hasNumber, isPermitted, nextNumber, numberAfter}
 use Rattle.numbers.proofs.Search.{number-first, number-some}

@@ -46,5 +46,5 @@ packetOf desk packet = record { packet = packet; step = desk .step; slots = four
 
 -- R-26: a desk that a making and earlier calls gave
 pub data Made : Desk → Type 0 where
-  made : Made freshDesk
+  made-fresh : Made freshDesk
   called : {desk : Desk} → Made desk → (list : List ℕ) → Made (acceptOf baseRest desk list .desk)

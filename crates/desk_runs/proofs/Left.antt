@@ -6,7 +6,7 @@ use mathlib.Core.List.{List, [], _∷_}
 use lib.ListN.{length, take, drop}
 use Rattle.frames.specs.Frames.{noBare, wholeSize}
 use Rattle.frames.proofs.Splitting.{calls-more, calls-none, calls-end}
-use Rattle.desk.specs.Desks.{baseRest, acceptOf, Made, made, called}
+use Rattle.desk.specs.Desks.{baseRest, acceptOf, Made, made-fresh, called}
 use Rattle.desk.specs.declared.Desk.{Desk}
 use Rattle.desk_runs.specs.Runs.{listsOf, deskFrom, deskAtEnd}
 
@@ -32,4 +32,4 @@ made-from m (list ∷ later) = made-from (called m list) later
 -- so that a next list may be handed to it
 pub made-at-end : (input : List ℕ) → Made (deskAtEnd input)
 unfolding deskAtEnd
-made-at-end input = made-from made (listsOf input)
+made-at-end input = made-from made-fresh (listsOf input)

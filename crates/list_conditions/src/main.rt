@@ -6,14 +6,16 @@ use lister::Listed;
 use lister::Lister;
 ghost use mathlib.Core.Path.{_≡_};
 ghost use Prim.Native.Nat.{_≤_};
+ghost use lib.Dec.{ltb};
 ghost use lib.ListN.{length};
+ghost use Rattle.io.specs.Counts.{Counts};
 ghost use Rattle.kit.specs.Put.{Put, Poured};
 ghost use Rattle.lister.specs.Pieces.{takeOf, pieceLines, MadeByPieces};
 ghost use Rattle.listing_lines.specs.Lines.{headerLine};
 ghost use Rattle.listing.specs.Listings.{endOf};
 ghost use Rattle.listing_room.specs.Rooms.{pieceRoom, linesRoom, headerRoom, endRoom};
 
-// How many bytes a piece has: four hundred telegrams.
+// How many bytes a piece has, but for the last: four hundred telegrams.
 const PIECE: usize = 10400;
 
 fn main() {
@@ -25,13 +27,28 @@ fn main() {
     while pieces < u64::MAX {
         pieces += 1;
         let mut piece = [0u8; 10400];
-        let n = io::read_full(STDIN_FILENO, &mut piece);
+        let n = read_piece(&mut piece);
         lister = show_piece(lister, &piece[..n], &mut out);
-        if n < PIECE {
+        if is_last(n) {
             show_end(lister);
             return;
         }
     }
+}
+
+// Reads the next piece into a buffer of a piece's size (listing_room/specs/Rooms.antt): as many bytes as there are, up to that.
+fn read_piece(piece: &mut [u8]) -> usize
+    requires { ⌜ length (now piece) ≡ pieceRoom ⌝ }
+    ensures { λ r. ⌜ Counts r (now (piece .exit)) ⌝ }
+{
+    io::read_full(STDIN_FILENO, piece)
+}
+
+// Whether a piece of so many bytes is the last: the input ended before the buffer was full.
+fn is_last(size: usize) -> bool
+    ensures { λ r. ⌜ r ≡ ltb size pieceRoom ⌝ }
+{
+    size < PIECE
 }
 
 // Puts the header, all of it: the buffer has the size for which that is proved (listing_room/specs/Rooms.antt).

@@ -56,26 +56,26 @@ module _ (P : Slot → Type 0) (empty : P emptySlot) where
   unfolding freshListener
   fresh-every = record { picture = none-every; hand = begun-every 0 }
 
-  module _ (limit : ℕ) where
-    heard-every : (listener : Listener) (t : Telegram) → Every P listener → AllOn P t → Every P (heardOf limit listener t .listener)
+  module _ (reach : ℕ) where
+    heard-every : (listener : Listener) (t : Telegram) → Every P listener → AllOn P t → Every P (heardOf reach listener t .listener)
     unfolding takenBy
     heard-every listener t s own =
         let more : AllOf P (joined (setFor (listener .hand) (t .step)) t .slots) =
         joined-every (setFor (listener .hand) (t .step)) t (set-every (listener .hand) (t .step) (s .hand)) own in
-        ways limit listener t (λ h number. Every P (h .listener)) s (record { picture = s .picture; hand = more }) (record { picture = s .picture; hand = begun-every 0 })
+        ways reach listener t (λ h number. Every P (h .listener)) s (record { picture = s .picture; hand = more }) (record { picture = s .picture; hand = begun-every 0 })
         (record { picture = more; hand = begun-every 0 })
 
-    after-every : (listener : Listener) (t : Telegram) (verdict : Verdict) → Every P listener → AllOn P t → Every P (afterReading verdict limit listener t .listener)
+    after-every : (listener : Listener) (t : Telegram) (verdict : Verdict) → Every P listener → AllOn P t → Every P (afterReading verdict reach listener t .listener)
     after-every listener t Accepted s own = heard-every listener t s own
     after-every listener t (Refused number) s own = s
 
     -- one telegram
-    pub hear-every : (listener : Listener) (reading : Reading) → Every P listener → AllOn P (reading .telegram) → Every P (hearOf limit listener reading .listener)
+    pub hear-every : (listener : Listener) (reading : Reading) → Every P listener → AllOn P (reading .telegram) → Every P (hearOf reach listener reading .listener)
     unfolding hearOf
     hear-every listener reading = after-every listener (reading .telegram) (reading .verdict)
 
     -- whatever was heard, where it holds of all that can be read
-    pub all-every : ((bytes : List ℕ) → AllOn P (readOf bytes .telegram)) → (telegrams : List (List ℕ)) → Every P (heardAll limit telegrams)
+    pub all-every : ((bytes : List ℕ) → AllOn P (readOf bytes .telegram)) → (telegrams : List (List ℕ)) → Every P (heardAll reach telegrams)
     unfolding heardAll
     all-every own [] = fresh-every
-    all-every own (bytes ∷ earlier) = hear-every (heardAll limit earlier) (readOf bytes) (all-every own earlier) (own bytes)
+    all-every own (bytes ∷ earlier) = hear-every (heardAll reach earlier) (readOf bytes) (all-every own earlier) (own bytes)

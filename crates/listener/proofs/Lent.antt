@@ -66,9 +66,9 @@ module _ (memory : List ℕ) (step : ℕ) where
 
 -- ---- a telegram that goes into a set
 
-marks-length : (limit gap : ℕ) (before table : List Slot) → length table ≡ slotCount → length (marksOf limit gap before table) ≡ slotCount
+marks-length : (reach gap : ℕ) (before table : List Slot) → length table ≡ slotCount → length (marksOf reach gap before table) ≡ slotCount
 unfolding marksOf
-marks-length limit gap before table n = length-map table (isCarried limit gap before) ∙ n
+marks-length reach gap before table n = length-map table (isCarried reach gap before) ∙ n
 
 module _ (memory telegram : List ℕ) (whole : length telegram ≡ 26) (packet : packetIn telegram ≤ 7) where
   -- what a telegram that the reader accepts leaves

@@ -22,7 +22,7 @@ use Rattle.hand.specs.declared.Hand.{Hand}
 use Rattle.listener.proofs.Answers.{repeat-or-refused, held-or-refused, taken-or-refused}
 use Rattle.listener.proofs.Hearing.{hear-refused, hear-as, heard-last, heard-copy, heard-part, heard-clash, heard-taken}
 
-module _ (limit : ℕ) (listener : Listener) where
+module _ (reach : ℕ) (listener : Listener) where
   module _ (t : Telegram) where
     abbrev set : Hand
     set = setFor (listener .hand) (t .step)
@@ -32,29 +32,29 @@ module _ (limit : ℕ) (listener : Listener) where
 
     -- every telegram that the reader accepts goes one of four ways, and is refused in one of them
     pub ways : (P : Hearing → ℕ → Type 0) → P (record { told = asRepeat; listener = listener }) 0 → P (record { told = asHeld; listener = holding listener with-it }) 0
-        → P (record { told = refusedAs 15; listener = holding listener (begun 0) }) 15 → P (record { told = toldOfTable listener with-it; listener = takenBy limit listener with-it }) 0
-        → P (heardOf limit listener t) (ladder 0 (clashRow listener t))
+        → P (record { told = refusedAs 15; listener = holding listener (begun 0) }) 15 → P (record { told = toldOfTable listener with-it; listener = takenBy reach listener with-it }) 0
+        → P (heardOf reach listener t) (ladder 0 (clashRow listener t))
     ways P repeat part clash taken =
         on (isLast (listener .last) (t .step))
-        (λ a. both (heard-last limit listener t a) (ladder-silent 0 (clashRow listener t) (rw a refl, tt)) repeat)
+        (λ a. both (heard-last reach listener t a) (ladder-silent 0 (clashRow listener t) (rw a refl, tt)) repeat)
         (λ a.
         on (isHeld set (t .packet))
-        (λ b. both (heard-copy limit listener t a b) (ladder-silent 0 (clashRow listener t) (rw (a, b) refl, tt)) repeat)
+        (λ b. both (heard-copy reach listener t a b) (ladder-silent 0 (clashRow listener t) (rw (a, b) refl, tt)) repeat)
         (λ b.
         on (isWhole with-it)
         (λ c.
         on (clashes (with-it .slots))
-        (λ d. both (heard-clash limit listener t a b c d) (ladder-decides 0 15 (clashRow listener t) (inl (rw (a, b, c, d) refl, refl))) clash)
-        (λ d. both (heard-taken limit listener t a b c d) (ladder-silent 0 (clashRow listener t) (rw (a, b, c, d) refl, tt)) taken))
-        (λ c. both (heard-part limit listener t a b c) (ladder-silent 0 (clashRow listener t) (rw (a, b, c) refl, tt)) part)))
+        (λ d. both (heard-clash reach listener t a b c d) (ladder-decides 0 15 (clashRow listener t) (inl (rw (a, b, c, d) refl, refl))) clash)
+        (λ d. both (heard-taken reach listener t a b c d) (ladder-silent 0 (clashRow listener t) (rw (a, b, c, d) refl, tt)) taken))
+        (λ c. both (heard-part reach listener t a b c) (ladder-silent 0 (clashRow listener t) (rw (a, b, c) refl, tt)) part)))
       where
-        both : {h : Hearing} {n : ℕ} → heardOf limit listener t ≡ h → ladder 0 (clashRow listener t) ≡ n → P h n → P (heardOf limit listener t) (ladder 0 (clashRow listener t))
+        both : {h : Hearing} {n : ℕ} → heardOf reach listener t ≡ h → ladder 0 (clashRow listener t) ≡ n → P h n → P (heardOf reach listener t) (ladder 0 (clashRow listener t))
         both {h} {n} e f p = subst (λ x. P x (ladder 0 (clashRow listener t))) (sym e) (subst (P h) (sym f) p)
 
   module _ (bytes : List ℕ) where
     -- what the listener tells, and what it is then
     abbrev heard : Hearing
-    heard = hearOf limit listener (readOf bytes)
+    heard = hearOf reach listener (readOf bytes)
 
     -- R-20, R-21: the number that is given is that of the first row that holds
     pub number-given : heard .told .number ≡ ladder 0 (hearRows listener bytes)
@@ -63,10 +63,10 @@ module _ (limit : ℕ) (listener : Listener) where
         go : Decides (readRows bytes) (ladder 0 (readRows bytes)) ⊎ NoneHolds (readRows bytes) → heard .told .number ≡ ladder 0 (hearRows listener bytes)
         go (inl d) =
             let number : ℕ = ladder 0 (readRows bytes) in
-            ap (λ (h : Hearing). h .told .number) (hear-refused limit listener (readOf bytes) number (reading-refused bytes number .1 d))
+            ap (λ (h : Hearing). h .told .number) (hear-refused reach listener (readOf bytes) number (reading-refused bytes number .1 d))
             ∙ sym (ladder-append 0 (readRows bytes) (clashRow listener (readOf bytes .telegram)) ∙ ladder-decides (ladder 0 (clashRow listener (readOf bytes .telegram))) number (readRows bytes) d)
         go (inr s) =
-            ap (λ (h : Hearing). h .told .number) (hear-as limit listener (readOf bytes) (reading-accepted bytes .1 s))
+            ap (λ (h : Hearing). h .told .number) (hear-as reach listener (readOf bytes) (reading-accepted bytes .1 s))
             ∙ (ways (readOf bytes .telegram) (λ h n. h .told .number ≡ n) refl refl refl refl
             ∙ sym (ladder-append 0 (readRows bytes) (clashRow listener (readOf bytes .telegram)) ∙ ladder-silent (ladder 0 (clashRow listener (readOf bytes .telegram))) (readRows bytes) s))
 
@@ -80,21 +80,21 @@ module _ (limit : ℕ) (listener : Listener) where
         go : Decides (readRows bytes) (ladder 0 (readRows bytes)) ⊎ NoneHolds (readRows bytes) → 1 ≤ number
         go (inl d) =
             let own : refusedAs (ladder 0 (readRows bytes)) ≡ refusedAs number =
-            sym (ap (λ (h : Hearing). h .told) (hear-refused limit listener (readOf bytes) (ladder 0 (readRows bytes)) (reading-refused bytes (ladder 0 (readRows bytes)) .1 d))) ∙ e in
+            sym (ap (λ (h : Hearing). h .told) (hear-refused reach listener (readOf bytes) (ladder 0 (readRows bytes)) (reading-refused bytes (ladder 0 (readRows bytes)) .1 d))) ∙ e in
             omega (arith, ap (λ (told : Told). told .number) own, decides-positive (readRows bytes) (ladder 0 (readRows bytes)) (read-numbered bytes) d)
         go (inr s) =
             ways (readOf bytes .telegram) (λ h n. h .told ≡ refusedAs number → 1 ≤ number) (λ f. absurd (repeat-or-refused number f)) (λ f. absurd (held-or-refused number f))
             (λ f. omega (arith, ap (λ (told : Told). told .number) f))
-            (λ f. absurd (taken-or-refused _ _ _ number f)) (sym (ap (λ (h : Hearing). h .told) (hear-as limit listener (readOf bytes) (reading-accepted bytes .1 s))) ∙ e)
+            (λ f. absurd (taken-or-refused _ _ _ number f)) (sym (ap (λ (h : Hearing). h .told) (hear-as reach listener (readOf bytes) (reading-accepted bytes .1 s))) ∙ e)
 
     -- R-24, L-11: what the reader refuses changes nothing
     pub refused-unchanged : (number : ℕ) → Decides (readRows bytes) number → heard ≡ record { told = refusedAs number; listener = listener }
-    refused-unchanged number d = hear-refused limit listener (readOf bytes) number (reading-refused bytes number .1 d)
+    refused-unchanged number d = hear-refused reach listener (readOf bytes) number (reading-refused bytes number .1 d)
 
     -- L-09, L-10: 15 drops the set in hand; picture, marks and last step stay
     pub clash-drops : NoneHolds (readRows bytes) → Decides (clashRow listener (readOf bytes .telegram)) 15 → heard ≡ record { told = refusedAs 15; listener = holding listener (begun 0) }
     clash-drops s d =
-        hear-as limit listener (readOf bytes) (reading-accepted bytes .1 s)
+        hear-as reach listener (readOf bytes) (reading-accepted bytes .1 s)
         ∙ ways (readOf bytes .telegram) (λ h n. n ≡ 15 → h ≡ record { told = refusedAs 15; listener = holding listener (begun 0) })
         (λ e. absurd (omega arith)) (λ e. absurd (omega arith)) (λ e. refl) (λ e. absurd (omega arith))
         (ladder-decides 0 15 (clashRow listener (readOf bytes .telegram)) d)

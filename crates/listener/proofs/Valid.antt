@@ -9,5 +9,5 @@ use Rattle.listener.specs.Listeners.{heardAll}
 use Rattle.listener.proofs.Every.{all-every}
 
 -- M-2e: whatever was heard
-pub picture-valid : (limit : ℕ) (telegrams : List (List ℕ)) (i : ℕ) → MayHold (tableSlot (heardAll limit telegrams .picture) i)
-picture-valid limit telegrams = all-every MayHold refl limit never-invalid telegrams .picture
+pub picture-valid : (reach : ℕ) (telegrams : List (List ℕ)) (i : ℕ) → MayHold (tableSlot (heardAll reach telegrams .picture) i)
+picture-valid reach telegrams = all-every MayHold refl reach never-invalid telegrams .picture

@@ -46,28 +46,28 @@ shiftedIn memory step marks = begunIn (withLast (withPicture (withMarks memory m
 
 -- the same with the step number and the marks that are the set's own
 unfoldable pub takenIn : ℕ → List ℕ → List ℕ
-takenIn limit memory =
-    shiftedIn memory (handIn memory .step) (marksOf limit (gapFrom (lastIn memory) (handIn memory .step)) (pictureIn memory) (setIn memory))
+takenIn reach memory =
+    shiftedIn memory (handIn memory .step) (marksOf reach (gapFrom (lastIn memory) (handIn memory .step)) (pictureIn memory) (setIn memory))
 
 -- the memory after an answer of this outcome and number. Refusal 15 alone drops the set.
 abbrev pub memoryBy : Outcome → ℕ → ℕ → List ℕ → List ℕ → List ℕ
-memoryBy aRefusal number limit memory telegram = cond (eqb number 15) (begunIn (withIt memory telegram) 0) memory
-memoryBy aRepeat number limit memory telegram = memory
-memoryBy aPart number limit memory telegram = withIt memory telegram
-memoryBy aTable number limit memory telegram = takenIn limit (withIt memory telegram)
+memoryBy aRefusal number reach memory telegram = cond (eqb number 15) (begunIn (withIt memory telegram) 0) memory
+memoryBy aRepeat number reach memory telegram = memory
+memoryBy aPart number reach memory telegram = withIt memory telegram
+memoryBy aTable number reach memory telegram = takenIn reach (withIt memory telegram)
 
 -- the memory after what an answer tells
 abbrev pub memoryAfter : ℕ → Told → List ℕ → List ℕ → List ℕ
-memoryAfter limit told memory telegram = memoryBy (told .outcome) (told .number) limit memory telegram
+memoryAfter reach told memory telegram = memoryBy (told .outcome) (told .number) reach memory telegram
 
 -- What a hearing leaves: what is told and the listener that the memory then means are those of `heard`, and every byte is determined.
-pub record LeftBy (limit : ℕ) (heard : Hearing) (memory telegram : List ℕ) (told : Told) (after : List ℕ) : Type 0 where
+pub record LeftBy (reach : ℕ) (heard : Hearing) (memory telegram : List ℕ) (told : Told) (after : List ℕ) : Type 0 where
   pub meant : _≡_ {A = Hearing} (record { told = told; listener = listenerIn after }) heard
-  pub bytes : after ≡ memoryAfter limit told memory telegram
+  pub bytes : after ≡ memoryAfter reach told memory telegram
 
 -- M-1b: hearing takes the listener that the memory means to the next one
 abbrev pub HeardIn : ℕ → List ℕ → List ℕ → Answer → List ℕ → Type 0
-HeardIn limit memory telegram answer after = LeftBy limit (hearOf limit (listenerIn memory) (readOf telegram)) memory telegram (toldOf answer) after
+HeardIn reach memory telegram answer after = LeftBy reach (hearOf reach (listenerIn memory) (readOf telegram)) memory telegram (toldOf answer) after
 
 -- ---- the parts of a hearing, on the memory
 
@@ -78,19 +78,19 @@ pub record Left : Type 0 where
 
 -- a whole set is taken
 unfoldable pub takenLeft : ℕ → List ℕ → Left
-takenLeft limit memory =
+takenLeft reach memory =
     record {
       told = takenAs (handIn memory .step) (countOf (setIn memory)) (gapFrom (lastIn memory) (handIn memory .step));
-      memory = takenIn limit memory;
+      memory = takenIn reach memory;
     }
 
 -- a whole set is refused, or taken
 unfoldable pub judgedLeft : ℕ → List ℕ → Left
-judgedLeft limit memory = cond (clashes (setIn memory)) (record { told = refusedAs 15; memory = begunIn memory 0 }) (takenLeft limit memory)
+judgedLeft reach memory = cond (clashes (setIn memory)) (record { told = refusedAs 15; memory = begunIn memory 0 }) (takenLeft reach memory)
 
 -- a telegram goes into the set, which is judged once it is whole
 unfoldable pub addedLeft : ℕ → List ℕ → List ℕ → Left
-addedLeft limit memory telegram =
+addedLeft reach memory telegram =
     cond (isWhole (handIn (joinedIn memory telegram)))
-    (judgedLeft limit (joinedIn memory telegram))
+    (judgedLeft reach (joinedIn memory telegram))
     (record { told = asHeld; memory = joinedIn memory telegram })

@@ -52,10 +52,10 @@ holding listener hand = record { picture = listener .picture; marks = listener .
 
 -- L-04 to L-07: the listener that has taken a whole set: the set is the picture, each entry carried or new, and no set is in hand
 unfoldable pub takenBy : ℕ → Listener → Hand → Listener
-takenBy limit listener hand =
+takenBy reach listener hand =
     record {
       picture = hand .slots;
-      marks = marksOf limit (gapFrom (listener .last) (hand .step)) (listener .picture) (hand .slots);
+      marks = marksOf reach (gapFrom (listener .last) (hand .step)) (listener .picture) (hand .slots);
       last = Step (hand .step);
       hand = begun 0;
     }
@@ -70,10 +70,10 @@ toldOfTable listener hand = takenAs (hand .step) (countOf (hand .slots)) (gapFro
 -- L-09, L-10, R-15, R-21: a set whose numbers clash is refused last: it is dropped, and picture and last step stay
 -- L-04: otherwise the table is taken
 unfoldable pub heardOf : ℕ → Listener → Telegram → Hearing
-heardOf limit listener t =
+heardOf reach listener t =
     let own = setFor (listener .hand) (t .step) in
     let with-it = joined own t in
-    ladder (record { told = toldOfTable listener with-it; listener = takenBy limit listener with-it })
+    ladder (record { told = toldOfTable listener with-it; listener = takenBy reach listener with-it })
     ((isLast (listener .last) (t .step), record { told = asRepeat; listener = listener })
     ∷ (isHeld own (t .packet), record { told = asRepeat; listener = listener })
     ∷ (not (isWhole with-it), record { told = asHeld; listener = holding listener with-it })
@@ -82,17 +82,17 @@ heardOf limit listener t =
 
 -- R-20, R-21, L-11: what the reader refuses is refused under the same number, and changes nothing; all else comes after
 abbrev pub afterReading : Verdict → ℕ → Listener → Telegram → Hearing
-afterReading (Refused number) limit listener t = record { told = refusedAs number; listener = listener }
-afterReading Accepted limit listener t = heardOf limit listener t
+afterReading (Refused number) reach listener t = record { told = refusedAs number; listener = listener }
+afterReading Accepted reach listener t = heardOf reach listener t
 
 -- M-1b: the answer to what was read from a telegram, and the next listener
 unfoldable pub hearOf : ℕ → Listener → Reading → Hearing
-hearOf limit listener reading = afterReading (reading .verdict) limit listener (reading .telegram)
+hearOf reach listener reading = afterReading (reading .verdict) reach listener (reading .telegram)
 
 -- R-26: the listener that has heard these bytes, the newest first
 unfoldable pub heardAll : ℕ → List (List ℕ) → Listener
-heardAll limit [] = freshListener
-heardAll limit (bytes ∷ earlier) = hearOf limit (heardAll limit earlier) (readOf bytes) .listener
+heardAll reach [] = freshListener
+heardAll reach (bytes ∷ earlier) = hearOf reach (heardAll reach earlier) (readOf bytes) .listener
 
 -- ---- refusals in the paper's numbers
 

@@ -64,17 +64,17 @@ impl Lister {
 }
 
 // How many bytes of a piece the telegram in hand still lacks: none where none is begun, all where they do not make it whole.
-fn lacking(kept: usize, length: usize) -> usize
+fn lacking(kept: usize, size: usize) -> usize
     requires { ⌜ kept ≤ 26 ⌝ }
-    ensures { λ r. ⌜ r ≡ cond (eqb kept 0) 0 (min (26 - kept) length) ⌝ }
+    ensures { λ r. ⌜ r ≡ cond (eqb kept 0) 0 (min (26 - kept) size) ⌝ }
 {
     if kept == 0 {
         return 0;
     }
-    if LENGTH - kept < length {
+    if LENGTH - kept < size {
         return LENGTH - kept;
     }
-    length
+    size
 }
 
 // How many tables were taken, so many more. The count stays at the greatest number that it can hold.

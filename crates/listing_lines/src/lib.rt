@@ -2,7 +2,7 @@
 ghost use Rattle.kit.specs.Put.{Poured};
 ghost use Rattle.listing_lines.specs.Lines.{headerLine, refusedLine, endLine};
 
-const LINE_FEED: u8 = 10;
+const LINE_FEED: u8 = b'\n';
 
 // The first line. The 1 names this form of listing.
 pub const HEADER: [u8; 13] = *b"conditions 1\n";

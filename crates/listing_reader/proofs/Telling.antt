@@ -1,8 +1,8 @@
 -- Two texts are the same exactly when their bytes are, and each of the fixed byte strings is told from the others.
 use Prim.Native.Nat.{ℕ}
-use mathlib.Core.Path.{_≡_, refl}
+use mathlib.Core.Path.{_≡_, refl, sym, ap, _∙_}
 use mathlib.Core.Bool.{true, not}
-use mathlib.Core.List.{List}
+use mathlib.Core.List.{List, [], _∷_}
 use lib.ListN.{length, getD}
 use lib.Seq.{ext-getD}
 use lib.Dec.{eqb}
@@ -15,8 +15,9 @@ use Rattle.kit.proofs.Loops.{any-none}
 use Rattle.text.specs.Words.{refusedWord}
 use Rattle.listing_words.specs.Words.{newWord, carriedWord}
 use Rattle.listing_lines.specs.Lines.{headerLine}
-use Rattle.listing_reader.specs.Fixed.{differsAt, isSameText, wordOf}
-use Rattle.listing_reader.specs.declared.Word.the-variants.{Header, New, Carried, Refused}
+use Rattle.listing_reader.specs.Fixed.{differsAt, isSameText, wordOf, codeOf}
+use Rattle.listing_reader.specs.declared.Word.{Word}
+use Rattle.listing_reader.specs.declared.Word.the-variants.{Header, New, Carried, Refused, Other}
 
 pub same-bytes : (text words : List ℕ) → isSameText text words ≡ true → text ≡ words
 unfolding isSameText
@@ -31,3 +32,18 @@ same-bytes text words e =
 pub told : (wordOf headerLine ≡ Header) × (wordOf newWord ≡ New) × (wordOf carriedWord ≡ Carried) × (wordOf refusedWord ≡ Refused)
 unfolding wordOf isSameText headerLine ladder scan
 told = (refl, refl, refl, refl)
+
+-- C-12: no two words have the same code
+wordBy : ℕ → Word
+wordBy code = ladder Other ((eqb code 1, Header) ∷ (eqb code 2, New) ∷ (eqb code 3, Carried) ∷ (eqb code 4, Refused) ∷ [])
+
+code-back : (word : Word) → wordBy (codeOf word) ≡ word
+unfolding wordBy ladder
+code-back Other = refl
+code-back Header = refl
+code-back New = refl
+code-back Carried = refl
+code-back Refused = refl
+
+pub code-apart : (one other : Word) → codeOf one ≡ codeOf other → one ≡ other
+code-apart one other e = sym (code-back one) ∙ (ap wordBy e ∙ code-back other)

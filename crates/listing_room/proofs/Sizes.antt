@@ -79,12 +79,12 @@ count-small : (table : List Slot) → countOf table ≤ slotCount
 unfolding countOf
 count-small table = count-most (λ i. isOccupied (tableSlot table i)) slotCount
 
-module _ (limit : ℕ) (listener : Listener) where
-  heard-small : (t : Telegram) → t .step < steps → Small (heardOf limit listener t .told)
+module _ (reach : ℕ) (listener : Listener) where
+  heard-small : (t : Telegram) → t .step < steps → Small (heardOf reach listener t .told)
   unfolding joined
   heard-small t below =
       let set = setFor (listener .hand) (t .step) in
-      ways limit listener t (λ h number. Small (h .told))
+      ways reach listener t (λ h number. Small (h .told))
       (record { number = omega arith; step = omega arith; conditions = omega arith; gap = omega arith })
       (record { number = omega arith; step = omega arith; conditions = omega arith; gap = omega arith })
       (record { number = omega arith; step = omega arith; conditions = omega arith; gap = omega arith })
@@ -95,11 +95,11 @@ module _ (limit : ℕ) (listener : Listener) where
         gap = gap-small (listener .last) (set .step);
       })
 
-  after-small : (t : Telegram) → t .step < steps → (verdict : Verdict) → ((number : ℕ) → verdict ≡ Refused number → number ≤ 15) → Small (afterReading verdict limit listener t .told)
+  after-small : (t : Telegram) → t .step < steps → (verdict : Verdict) → ((number : ℕ) → verdict ≡ Refused number → number ≤ 15) → Small (afterReading verdict reach listener t .told)
   after-small t below Accepted most = heard-small t below
   after-small t below (Refused number) most = record { number = most number refl; step = omega arith; conditions = omega arith; gap = omega arith }
 
   -- whatever the bytes
-  pub hear-small : (bytes : List ℕ) → Small (hearOf limit listener (readOf bytes) .told)
+  pub hear-small : (bytes : List ℕ) → Small (hearOf reach listener (readOf bytes) .told)
   unfolding hearOf
   hear-small bytes = after-small (readOf bytes .telegram) (step-small bytes) (readOf bytes .verdict) (verdict-small bytes)

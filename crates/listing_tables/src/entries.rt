@@ -23,7 +23,7 @@ const BLANK: u8 = b' ';
 
 const STROKE: u8 = b'/';
 
-const LINE_FEED: u8 = 10;
+const LINE_FEED: u8 = b'\n';
 
 const MINUS: u8 = b'-';
 

@@ -31,24 +31,24 @@ module _ (before : List Slot) (slot : Slot) where
       any-when _ 0 slotCount j (omega arith) (omega arith) (rw (eq-eqb (tableSlot before j .number) (slot .number) number, eq-eqb (kindOf (tableSlot before j)) (kindOf slot) kind) refl)
 
   -- L-06, both ways
-  pub carried-exactly : (limit gap : ℕ)
-      → (isCarried limit gap before slot ≡ true) ↔ ((isOccupied slot ≡ true) × (1 ≤ gap) × (gap ≤ limit) × InPicture before slot)
+  pub carried-exactly : (reach gap : ℕ)
+      → (isCarried reach gap before slot ≡ true) ↔ ((isOccupied slot ≡ true) × (1 ≤ gap) × (gap ≤ reach) × InPicture before slot)
   unfolding isCarried
-  carried-exactly limit gap = (
+  carried-exactly reach gap = (
     λ h.
         given (and-both _ _ h)
         (λ (occupied, h1).
         given (and-both _ _ h1)
-        (λ (low, h2). given (and-both _ _ h2) (λ (high, known). (occupied, leb-true 1 gap low, leb-true gap limit high, known-there known)))),
-    λ (occupied, low, high, there). rw (occupied, le-leb 1 gap low, le-leb gap limit high, there-known there) refl,
+        (λ (low, h2). given (and-both _ _ h2) (λ (high, known). (occupied, leb-true 1 gap low, leb-true gap reach high, known-there known)))),
+    λ (occupied, low, high, there). rw (occupied, le-leb 1 gap low, le-leb gap reach high, there-known there) refl,
   )
 
 -- the mark of slot i is that of its entry; past the table's end there is none
-pub mark-at : (limit gap : ℕ) (before table : List Slot) (i : ℕ) → getD (marksOf limit gap before table) i false ≡ isCarried limit gap before (tableSlot table i)
+pub mark-at : (reach gap : ℕ) (before table : List Slot) (i : ℕ) → getD (marksOf reach gap before table) i false ≡ isCarried reach gap before (tableSlot table i)
 unfolding marksOf isCarried
-mark-at limit gap before table i = List·getD-map (isCarried limit gap before) table i emptySlot
+mark-at reach gap before table i = List·getD-map (isCarried reach gap before) table i emptySlot
 
 -- L-07: over no gap nothing is carried
-pub none-carried : (limit : ℕ) (before : List Slot) (slot : Slot) → isCarried limit 0 before slot ≡ false
+pub none-carried : (reach : ℕ) (before : List Slot) (slot : Slot) → isCarried reach 0 before slot ≡ false
 unfolding isCarried
-none-carried limit before slot = on (isOccupied slot) (λ e. rw e refl) (λ e. rw e refl)
+none-carried reach before slot = on (isOccupied slot) (λ e. rw e refl) (λ e. rw e refl)

@@ -86,38 +86,38 @@ module _ (memory : List ℕ) where
   unfolding allThere
   there-at i p = one-each-at (isThere memory) slotCount false i p
 
-module _ (limit gap : ℕ) (before : List Slot) (slot : Slot) where
-  -- within the limit, what is known is carried; over no gap, and over one past the limit, nothing is
-  carried-within : 1 ≤ gap → gap ≤ limit → isCarried limit gap before slot ≡ isOccupied slot && isKnown before slot
+module _ (reach gap : ℕ) (before : List Slot) (slot : Slot) where
+  -- within the reach, what is known is carried; over no gap, and over one past the reach, nothing is
+  carried-within : 1 ≤ gap → gap ≤ reach → isCarried reach gap before slot ≡ isOccupied slot && isKnown before slot
   unfolding isCarried
-  carried-within low high = rw (le-leb 1 gap low, le-leb gap limit high) refl
+  carried-within low high = rw (le-leb 1 gap low, le-leb gap reach high) refl
 
-  carried-beyond : (gap ≡ 0) ⊎ (limit < gap) → isCarried limit gap before slot ≡ false
+  carried-beyond : (gap ≡ 0) ⊎ (reach < gap) → isCarried reach gap before slot ≡ false
   unfolding isCarried
-  carried-beyond (inl e) = ap (λ (n : ℕ). isCarried limit n before slot) e ∙ none-carried limit before slot
-  carried-beyond (inr e) = on (isOccupied slot) (λ o. on (leb 1 gap) (λ l. rw (o, l, lt-leb gap limit e) refl) (λ l. rw (o, l) refl)) (λ o. rw o refl)
+  carried-beyond (inl e) = ap (λ (n : ℕ). isCarried reach n before slot) e ∙ none-carried reach before slot
+  carried-beyond (inr e) = on (isOccupied slot) (λ o. on (leb 1 gap) (λ l. rw (o, l, lt-leb gap reach e) refl) (λ l. rw (o, l) refl)) (λ o. rw o refl)
 
-module _ (limit gap : ℕ) (memory : List ℕ) where
+module _ (reach gap : ℕ) (memory : List ℕ) where
   abbrev marks : List Bool
-  marks = marksOf limit gap (pictureIn memory) (setIn memory)
+  marks = marksOf reach gap (pictureIn memory) (setIn memory)
 
-  carried-at : (i : ℕ) → i < slotCount → getD marks i false ≡ isCarried limit gap (pictureIn memory) (storedSlot memory (slotPlace setFrom i))
-  carried-at i p = mark-at limit gap (pictureIn memory) (setIn memory) i ∙ ap (isCarried limit gap (pictureIn memory)) (slot-in memory setFrom i p)
+  carried-at : (i : ℕ) → i < slotCount → getD marks i false ≡ isCarried reach gap (pictureIn memory) (storedSlot memory (slotPlace setFrom i))
+  carried-at i p = mark-at reach gap (pictureIn memory) (setIn memory) i ∙ ap (isCarried reach gap (pictureIn memory)) (slot-in memory setFrom i p)
 
   length-marks : length marks ≡ slotCount
   unfolding marksOf
-  length-marks = length-map (setIn memory) (isCarried limit gap (pictureIn memory)) ∙ length-table memory setFrom
+  length-marks = length-map (setIn memory) (isCarried reach gap (pictureIn memory)) ∙ length-table memory setFrom
 
-  pub marks-there : 1 ≤ gap → gap ≤ limit → allThere memory ≡ marks
+  pub marks-there : 1 ≤ gap → gap ≤ reach → allThere memory ≡ marks
   marks-there low high =
       ext-getD false (allThere memory) marks (length-there memory ∙ sym length-marks)
       (λ i p.
       let q : i < slotCount = omega (arith, length-there memory) in
-      there-at memory i q ∙ (there-slot memory i ∙ sym (carried-at i q ∙ carried-within limit gap (pictureIn memory) (storedSlot memory (slotPlace setFrom i)) low high)))
+      there-at memory i q ∙ (there-slot memory i ∙ sym (carried-at i q ∙ carried-within reach gap (pictureIn memory) (storedSlot memory (slotPlace setFrom i)) low high)))
 
-  pub marks-none : (gap ≡ 0) ⊎ (limit < gap) → replicate slotCount false ≡ marks
+  pub marks-none : (gap ≡ 0) ⊎ (reach < gap) → replicate slotCount false ≡ marks
   marks-none out =
       ext-getD false (replicate slotCount false) marks (length-replicate slotCount false ∙ sym length-marks)
       (λ i p.
       let q : i < slotCount = omega (arith, length-replicate slotCount false) in
-      replicate-at slotCount i false ∙ sym (carried-at i q ∙ carried-beyond limit gap (pictureIn memory) (storedSlot memory (slotPlace setFrom i)) out))
+      replicate-at slotCount i false ∙ sym (carried-at i q ∙ carried-beyond reach gap (pictureIn memory) (storedSlot memory (slotPlace setFrom i)) out))

@@ -17,11 +17,11 @@ isSame before slot = eqb (before .number) (slot .number) && eqb (kindOf before) 
 unfoldable pub isKnown : List Slot → Slot → Bool
 isKnown before slot = any (λ j. isSame (tableSlot before j) slot) 0 slotCount
 
--- L-06: an entry is carried if the gap is 1 to the limit, which is 8 in document 01, and the previous picture has the same number
+-- L-06: an entry is carried if the gap is 1 to the reach, which is 8 in document 01, and the previous picture has the same number
 -- with the same type; otherwise it is new
 unfoldable pub isCarried : ℕ → ℕ → List Slot → Slot → Bool
-isCarried limit gap before slot = isOccupied slot && (leb 1 gap && (leb gap limit && isKnown before slot))
+isCarried reach gap before slot = isOccupied slot && (leb 1 gap && (leb gap reach && isKnown before slot))
 
 -- L-06: the marks of a table, true for carried
 unfoldable pub marksOf : ℕ → ℕ → List Slot → List Slot → List Bool
-marksOf limit gap before table = map (isCarried limit gap before) table
+marksOf reach gap before table = map (isCarried reach gap before) table

@@ -206,14 +206,14 @@ fn all_there(memory: &[u8; 310]) -> [bool; 20]
     marks
 }
 
-// The marks of the set's slots: true for carried, false for new and for empty. The limit is the greatest gap over which one is carried.
-pub fn marks_of(limit: u16, gap: u16, memory: &[u8; 310]) -> [bool; 20]
-    ensures { λ r. ⌜ r ≡ marksOf limit gap (pictureIn (now (memory .entry))) (setIn (now (memory .entry))) ⌝ }
+// The marks of the set's slots: true for carried, false for new and for empty. The reach is the greatest gap over which one is carried.
+pub fn marks_of(reach: u16, gap: u16, memory: &[u8; 310]) -> [bool; 20]
+    ensures { λ r. ⌜ r ≡ marksOf reach gap (pictureIn (now (memory .entry))) (setIn (now (memory .entry))) ⌝ }
 {
     if gap == 0 {
         return [false; 20];
     }
-    if gap > limit {
+    if gap > reach {
         return [false; 20];
     }
     all_there(memory)

@@ -14,21 +14,10 @@ use Rattle.kit.proofs.Ladder.{silent-each}
 use Rattle.kinds.specs.Words.{isType, secondAllowed}
 use Rattle.order_list.specs.Lists.{orderAt, orderCount, listedAt}
 use Rattle.places.specs.Places.{placeAt, placeOf, isLive}
-use Rattle.orders.specs.Orders.{isRetyped, orderRows, listRows, listRefusal}
+use Rattle.orders.specs.Orders.{isRetyped, orderRows, listRows, listRefusal, Fair}
 use Rattle.places.specs.declared.Place.{Place}
 use Rattle.order_list.proofs.Listed.{listed-there, listed-none, listed-when}
 use Rattle.orders.proofs.Rows.{list-accepted}
-
--- R-01 to R-08 of a list that is not refused
-pub record Fair (places : List Place) (list : List ℕ) : Type 0 where
-  pub whole : length list % 10 ≡ 0
-  pub short : orderCount list ≤ slotCount
-  pub named : (j : ℕ) → j < orderCount list → 1 ≤ orderAt list j .number
-  pub typed : (j : ℕ) → j < orderCount list → isType (orderAt list j .kind) ≡ true
-  pub plain : (j : ℕ) → j < orderCount list → orderAt list j .spare ≡ 0
-  pub allowed : (j : ℕ) → j < orderCount list → secondAllowed (orderAt list j .kind) (orderAt list j .first) (orderAt list j .second) ≡ true
-  pub distinct : (i j : ℕ) → i < j → j < orderCount list → orderAt list i .number ≡ orderAt list j .number → ⊥
-  pub same-type : (j : ℕ) → j < orderCount list → isRetyped places (orderAt list j) ≡ false
 
 module _ (places : List Place) (list : List ℕ) where
   silent-length : NoneHolds (listRows places list) → (length list % 10 ≡ 0) × (length list ≤ 200)

@@ -1,8 +1,8 @@
 -- The refusals of a list of orders: document 01, "Refusal numbers", rows 1 to 8.
 use Rattle.condition.specs.Slots.{codedOf, slotCount}
-use Prim.Native.Nat.{ℕ, _%_}
+use Prim.Native.Nat.{ℕ, _%_, _<_, _≤_}
 use mathlib.Core.Path.{_≡_}
-use mathlib.Core.Bool.{Bool, not, _&&_}
+use mathlib.Core.Bool.{Bool, true, false, not, _&&_}
 use mathlib.Core.List.{List, [], _∷_, map}
 use lib.Dec.{eqb, ltb}
 use lib.ListN.{length}
@@ -54,3 +54,15 @@ listRows places list =
 -- R-18, R-23: the first of these rows that holds, or 0
 abbrev pub listRefusal : List Place → List ℕ → ℕ
 listRefusal places list = ladder 0 (listRows places list)
+
+-- D-01, R-01 to R-08: what a list is that no row refuses (proofs/Lists.antt `fair`): whole orders and at most twenty; each with an order number
+-- of its own, a type, a zero byte and an allowed second word; and where it is live, with the type that it had
+pub record Fair (places : List Place) (list : List ℕ) : Type 0 where
+  pub whole : length list % 10 ≡ 0
+  pub short : orderCount list ≤ slotCount
+  pub named : (j : ℕ) → j < orderCount list → 1 ≤ orderAt list j .number
+  pub typed : (j : ℕ) → j < orderCount list → isType (orderAt list j .kind) ≡ true
+  pub plain : (j : ℕ) → j < orderCount list → orderAt list j .spare ≡ 0
+  pub allowed : (j : ℕ) → j < orderCount list → secondAllowed (orderAt list j .kind) (orderAt list j .first) (orderAt list j .second) ≡ true
+  pub distinct : (i j : ℕ) → i < j → j < orderCount list → orderAt list i .number ≡ orderAt list j .number → ⊥
+  pub same-type : (j : ℕ) → j < orderCount list → isRetyped places (orderAt list j) ≡ false

@@ -133,7 +133,7 @@ pub fn put_short_number(page: &mut [u8], at: usize, number: u8, after: u8) -> us
 pub fn put_bare_number(page: &mut [u8], at: usize, number: u16) -> usize
     ensures { λ r. ⌜ Laid 8 5 (now (page .entry)) at (decimal number) (lowBytes 8 (numberMade (decimal number ++ ascii "000"))) (now (page .exit)) r ⌝ }
 {
-    put_digits(page, at, number, 48, false)
+    put_digits(page, at, number, b'0', false)
 }
 
 fn at_most(count: usize, most: usize) -> usize
@@ -202,7 +202,7 @@ fn hex_digit(digit: u8) -> u8
     requires { ⌜ digit < 16 ⌝ }
     ensures { λ r. ⌜ r ≡ hexDigit digit ⌝ }
 {
-    48 + digit + (digit >= 10) as u8 * 39
+    b'0' + digit + (digit >= 10) as u8 * 39
 }
 
 // The two digits of a byte.

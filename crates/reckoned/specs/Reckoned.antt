@@ -6,8 +6,7 @@ use mathlib.Core.List.{List, [], _∷_, _++_, map}
 use lib.ListN.{replicate, getD}
 use Rattle.kit.specs.Each.{each}
 use Rattle.wire.specs.Steps.{gapOf}
-use Rattle.wire.specs.Verdicts.{numberOf}
-use Rattle.wire.specs.declared.verdicts.Verdict.the-variants.{Accepted, Refused}
+use Rattle.wire.specs.Verdicts.{numberOf, verdictOf}
 use Rattle.condition.specs.Slots.{emptySlot}
 use Rattle.condition.specs.declared.slots.Body.{Body}
 use Rattle.condition.specs.declared.slots.Body.the-variants as Body′
@@ -96,8 +95,8 @@ unfoldable pub twoWords : ℕ → ℕ → List ℕ
 twoWords first second = (first / 256) ∷ (first % 256) ∷ (second / 256) ∷ (second % 256) ∷ []
 
 -- the slot with number 1 that holds this
-abbrev pub filled : Body → Slot
-filled body = record { number = 1; body = body }
+abbrev pub slotWith : Body → Slot
+slotWith body = record { number = 1; body = body }
 
 -- the telegram of step 1, packet 3, with one slot in its first place
 abbrev pub carrying : Slot → Telegram
@@ -117,10 +116,10 @@ heldFirst list = getD (tableOf (acceptOf baseRest freshDesk list .desk)) 0 empty
 
 -- reading is accepted with this in the first place, or refused
 abbrev pub reads : Body → Reading
-reads body = record { verdict = Accepted; telegram = carrying (filled body) }
+reads body = record { verdict = verdictOf 0; telegram = carrying (slotWith body) }
 
 abbrev pub refuses : ℕ → Reading
-refuses number = record { verdict = Refused number; telegram = blankTelegram }
+refuses number = record { verdict = verdictOf number; telegram = blankTelegram }
 
 -- ---- telegrams from the train
 
@@ -177,10 +176,10 @@ p5-wrap = numbers-are (stepAndNumbers (orderList 1 1000 ∷ (emptyLists 8183 ++ 
 abbrev pub short-rows : List Row
 short-rows =
     -- P1: voltage 1, country 33: second word 0211h, written, read and ordered
-    numbers-are (bytesOf (carrying (filled (Body′.Traction 0 33 1)))) (wireBytes 4 0 0x0211)
+    numbers-are (bytesOf (carrying (slotWith (Body′.Traction 0 33 1)))) (wireBytes 4 0 0x0211)
     ∷ readings-are (readOf (wireBytes 4 0 0x0211)) (reads (Body′.Traction 0 33 1))
     ∷ numbers-are (freshRefusal (ordering 4 0 0x0211)) (0 ∷ [])
-    ∷ slots-are (heldFirst (ordering 4 0 0x0211)) (filled (Body′.Traction 0 33 1))
+    ∷ slots-are (heldFirst (ordering 4 0 0x0211)) (slotWith (Body′.Traction 0 33 1))
     -- P1: voltage 6: refusal 6, of the telegram and of the list
     ∷ readings-are (readOf (wireBytes 4 0 0x0216)) (refuses 6)
     ∷ numbers-are (freshRefusal (ordering 4 0 0x0216)) (6 ∷ [])
@@ -199,10 +198,10 @@ short-rows =
     ∷ readings-are (readOf (wireBytes 5 0x8000 1023)) (reads (Body′.Current 0x8000 0))
     ∷ readings-are (readOf (wireBytes 5 0x8000 1001)) (reads (Body′.Current 0x8000 0))
     ∷ readings-are (readOf (wireBytes 5 0x8000 1022)) (reads (Body′.Current 0x8000 0))
-    ∷ slots-are (heldFirst (ordering 5 0x8000 1000)) (filled (Body′.Current 0x8000 0))
-    ∷ slots-are (heldFirst (ordering 5 0x8000 1023)) (filled (Body′.Current 0x8000 0))
-    ∷ slots-are (heldFirst (ordering 5 0x8000 1001)) (filled (Body′.Current 0x8000 0))
-    ∷ slots-are (heldFirst (ordering 5 0x8000 1022)) (filled (Body′.Current 0x8000 0))
+    ∷ slots-are (heldFirst (ordering 5 0x8000 1000)) (slotWith (Body′.Current 0x8000 0))
+    ∷ slots-are (heldFirst (ordering 5 0x8000 1023)) (slotWith (Body′.Current 0x8000 0))
+    ∷ slots-are (heldFirst (ordering 5 0x8000 1001)) (slotWith (Body′.Current 0x8000 0))
+    ∷ slots-are (heldFirst (ordering 5 0x8000 1022)) (slotWith (Body′.Current 0x8000 0))
     -- P3: the gap from 8,190 to 3 is 5; from 0 to 8,191 it is 8,191
     ∷ numbers-are (gapOf 3 8190 ∷ []) (5 ∷ [])
     ∷ numbers-are (gapOf 8191 0 ∷ []) (8191 ∷ [])

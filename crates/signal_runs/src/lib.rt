@@ -10,20 +10,20 @@ ghost use Rattle.signal_runs.specs.Runs.{updatedBy, signalLines};
 const NO_TELEGRAM: u16 = 0xFFFF;
 
 // The record after a call, and the place past its line.
-struct Told {
+struct Spoken {
     signals: Signals,
     at: usize,
 }
 
 // One call: its line, and the next record. The record is lent for the call and updated where it is.
-fn tell(signals: Signals, length: u16, bytes: &[u8], lines: &mut [u8], at: usize) -> Told
-    ensures { λ r. ⌜ (r .signals ≡ updatedBy signals (length, now (bytes .entry)) .signals)
-        × Poured (now (lines .entry)) at (lineOf (updatedBy signals (length, now (bytes .entry)))) (now (lines .exit)) (r .at) ⌝ }
+fn tell(signals: Signals, announced: u16, bytes: &[u8], lines: &mut [u8], at: usize) -> Spoken
+    ensures { λ r. ⌜ (r .signals ≡ updatedBy signals (announced, now (bytes .entry)) .signals)
+        × Poured (now (lines .entry)) at (lineOf (updatedBy signals (announced, now (bytes .entry)))) (now (lines .exit)) (r .at) ⌝ }
 {
-    let updated = signals_in_place::lend_and_update(signals, length != NO_TELEGRAM, bytes);
+    let updated = signals_in_place::lend_and_update(signals, announced != NO_TELEGRAM, bytes);
     let next = updated.signals;
     let past = signals_output::put_line(updated, lines, at);
-    Told {
+    Spoken {
         signals: next,
         at: past,
     }

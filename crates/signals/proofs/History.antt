@@ -17,10 +17,15 @@ use Rattle.train_telegram.proofs.Showing.{states-show}
 use Rattle.train_telegram.proofs.Refusals.{read-refused, read-accepted}
 use Rattle.signals.specs.Answers.{Updating}
 use Rattle.signals.specs.Signals.{signalsWith, freshSignals, missedBy, updateOf}
-use Rattle.signals.specs.Histories.{Call, updatedAll, isMiss, missesIn, lastSaid, standing, LastAccepted}
+use Rattle.signals.specs.Histories.{Call, isMiss, missesIn, lastSaid, standing, LastAccepted}
 use Rattle.signals.specs.declared.Signals.{Signals}
 use Rattle.signals.proofs.Missing.{missed-keeps, missed-silences}
 use Rattle.signals.proofs.Updating.{update-missed, update-refused, update-accepted}
+
+-- the record that these calls have made of a fresh one
+unfoldable pub updatedAll : List Call → Signals
+updatedAll [] = freshSignals
+updatedAll ((present, telegram) ∷ earlier) = updateOf (updatedAll earlier) present telegram .signals
 
 -- a call that is a miss, and one that is not
 miss-misses : (signals : Signals) (present : Bool) (telegram : List ℕ) → isMiss (present, telegram) ≡ true → updateOf signals present telegram .signals ≡ missedBy signals

@@ -8,17 +8,12 @@ use lib.Dec.{eqb, ltb}
 use Rattle.train_codes.specs.Refusals.{trainRefusal}
 use Rattle.train_telegram.specs.States.{statesOf, silent}
 use Rattle.train_telegram.specs.declared.states.States.{States}
-use Rattle.signals.specs.Signals.{signalsWith, freshSignals, updateOf}
+use Rattle.signals.specs.Signals.{signalsWith}
 use Rattle.signals.specs.declared.Signals.{Signals}
 
 -- a call: whether it has a telegram, and the telegram's bytes
 abbrev pub Call : Type 0
 Call = Bool × List ℕ
-
--- R-26: the record that these calls have made
-unfoldable pub updatedAll : List Call → Signals
-updatedAll [] = freshSignals
-updatedAll ((present, telegram) ∷ earlier) = updateOf (updatedAll earlier) present telegram .signals
 
 -- S-13: a call with no telegram, or with a refused one, is a miss
 abbrev pub isMiss : Call → Bool

@@ -14,9 +14,9 @@ ghost use Rattle.signals.specs.Answers.{notedOf, updatingOf};
 ghost use Rattle.signals_output.specs.Lines.{answerWords, missesWord, nationalWord, stateWords, lineOf, shortCallLine};
 
 // Each word after the first has a blank before it.
-const BLANK: u8 = 32;
+const BLANK: u8 = b' ';
 
-const LINE_FEED: u8 = 10;
+const LINE_FEED: u8 = b'\n';
 
 fn put_answer(answer: Answer, page: &mut [u8], at: usize) -> usize
     requires { ⌜ at + 16 ≤ length (now page) ⌝ }

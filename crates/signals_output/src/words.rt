@@ -11,7 +11,7 @@ ghost use Rattle.page.specs.Pages.{Paged};
 ghost use Rattle.page.specs.Words.{bytesOfWord};
 ghost use Rattle.state_words.specs.Words.{cabWord, brakeWord, isolationWord, tractionWord};
 
-const BLANK: u8 = 32;
+const BLANK: u8 = b' ';
 
 fn cab_word(cab: Cab) -> Word
     ensures { λ r. ⌜ bytesOfWord r ≡ cabWord cab ⌝ }

@@ -74,14 +74,14 @@ fn is_other(packet: u8) -> bool
 }
 
 // The refusal of a packet number and a buffer's length, or 0.
-fn refusal_of(packet: u8, length: usize) -> u8
-    ensures { λ r. ⌜ r ≡ writeRefusal packet length ⌝ }
+fn refusal_of(packet: u8, room: usize) -> u8
+    ensures { λ r. ⌜ r ≡ writeRefusal packet room ⌝ }
 {
     let other = is_other(packet);
     if other {
         return 9;
     }
-    if length != LENGTH {
+    if room != LENGTH {
         return 10;
     }
     0

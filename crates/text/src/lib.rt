@@ -48,8 +48,8 @@ pub fn put_decimal(buffer: &mut [u8], at: usize, number: u64) -> usize
     ensures { λ r. ⌜ Poured (now (buffer .entry)) at (decimal number) (now (buffer .exit)) r ⌝ }
 {
     if number < 10 {
-        return put_byte(buffer, at, 48 + number as u8);
+        return put_byte(buffer, at, b'0' + number as u8);
     }
     let next = put_decimal(buffer, at, number / 10);
-    put_byte(buffer, next, 48 + (number % 10) as u8)
+    put_byte(buffer, next, b'0' + (number % 10) as u8)
 }

@@ -1,8 +1,8 @@
--- Laws of verdicts: a verdict and its number say the same.
+-- Laws of verdicts: what is told of a verdict is different for every two of them, and each number has a verdict of its own.
 use Prim.Native.Nat.{ℕ, _≤_}
 use mathlib.Core.Path.{_≡_, refl, sym, ap, _∙_}
 use mathlib.Core.Logic.{_↔_}
-use mathlib.Core.Bool.{Bool}
+use mathlib.Core.Bool.{Bool, cond}
 use mathlib.Core.List.{List}
 use lib.Dec.{eqb}
 use native.Mathlib.Omega.{arith}
@@ -10,9 +10,27 @@ use borrow.Author.Tests.{eqb-true, eqb-false, eq-eqb, ne-eqb}
 use Rattle.kit.specs.Ladder.{ladder, Decides, NoneHolds, Numbered}
 use Rattle.kit.proofs.Cases.{on}
 use Rattle.kit.proofs.Ladder.{refused-exactly, passed-exactly, decides-positive}
-use Rattle.wire.specs.Verdicts.{numberOf, verdictOf}
+use Rattle.wire.specs.Verdicts.{Ruling, ruledAccepted, ruledRefused, rulingOf, numberOf, verdictOf}
 use Rattle.wire.specs.declared.verdicts.Verdict.{Verdict}
 use Rattle.wire.specs.declared.verdicts.Verdict.the-variants.{Accepted, Refused}
+
+-- C-12: no two verdicts tell the same
+verdictBy : Ruling → Verdict
+verdictBy ruling = cond (ruling .refused) (Refused (ruling .number)) Accepted
+
+ruling-back : (verdict : Verdict) → verdictBy (rulingOf verdict) ≡ verdict
+unfolding verdictBy
+ruling-back Accepted = refl
+ruling-back (Refused number) = refl
+
+pub ruling-apart : (one other : Verdict) → rulingOf one ≡ rulingOf other → one ≡ other
+ruling-apart one other e = sym (ruling-back one) ∙ (ap verdictBy e ∙ ruling-back other)
+
+pub ruled-accepted : {verdict : Verdict} → rulingOf verdict ≡ ruledAccepted → verdict ≡ Accepted
+ruled-accepted {verdict} = ruling-apart verdict Accepted
+
+pub ruled-refused : {verdict : Verdict} {number : ℕ} → rulingOf verdict ≡ ruledRefused number → verdict ≡ Refused number
+ruled-refused {verdict} {number} = ruling-apart verdict (Refused number)
 
 pub accepted-or-refused : (number : ℕ) → Accepted ≡ Refused number → ⊥
 accepted-or-refused number e = let z : _≡_ {A = ℕ} 0 1 = cc in omega arith

@@ -9,7 +9,7 @@ use borrow.Author.Needs.{needs}
 use borrow.Rule.Slice.PartAt.{part-to-end}
 use Rattle.frames.specs.Frames.{noBare}
 use Rattle.frames.proofs.Splitting.{size-bounds}
-use Rattle.desk.specs.Desks.{Made, made, called}
+use Rattle.desk.specs.Desks.{Made, made-fresh, called}
 use Rattle.desk.specs.declared.Answer.{Answer}
 use Rattle.desk_runs.specs.Runs.{listsOf, deskFrom, deskAtEnd}
 use Rattle.desk_runs.proofs.Left.{left-more, left-none, left-end}
@@ -29,7 +29,7 @@ loop-holds : tie.Need-loop-holds Inv-loop μ-loop
 unfolding deskAtEnd
 loop-holds c =
     let desk = c .fresh .ensures in
-    (subst⁻¹ Made desk made, ap (λ d. deskFrom d (listsOf (c .before .before .args .input .now))) desk)
+    (subst⁻¹ Made desk made-fresh, ap (λ d. deskFrom d (listsOf (c .before .before .args .input .now))) desk)
 
 call-size-requires : tie.Need-call-size-requires Inv-loop μ-loop
 call-size-requires c κs = search needs

@@ -11,7 +11,7 @@ use Rattle.kit.proofs.Put.{poured-length}
 use Rattle.frames.specs.Frames.{noBare}
 use Rattle.frames.proofs.Splitting.{size-bounds}
 use Rattle.frames.proofs.Pouring.{Pouring, pouring-start, pouring-more, pouring-end, pouring-last, pouring-as, pouring-length, pouring-room}
-use Rattle.desk.specs.Desks.{Made, made, called}
+use Rattle.desk.specs.Desks.{Made, made-fresh, called}
 use Rattle.desk_runs.specs.Runs.{tablesWith, refusedLinesWith, runTables, refusedLines}
 use Rattle.desk_runs.proofs.Outputs.{tables-more, lines-more, tables-none, lines-short, tables-end, lines-end}
 use Rattle.desk_runs.proofs.run.Statement.{statement}
@@ -36,7 +36,7 @@ loop-holds c =
     let start = c .before .before .before .before in
     let desk = c .fresh .ensures in
     let input : List ℕ = start .args .input .now in (
-      subst⁻¹ Made desk made,
+      subst⁻¹ Made desk made-fresh,
       search needs,
       pouring-as (ap (λ d. tablesWith d input) (sym desk)) pouring-start,
       pouring-as (ap (λ d. refusedLinesWith d 0 input) (sym desk)) pouring-start,

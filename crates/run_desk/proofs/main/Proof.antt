@@ -4,7 +4,7 @@ use mathlib.Core.Path.{sym, subst⁻¹}
 use lib.ListN.{length}
 use lib.Seq.{length-take-le}
 use borrow.Author.Needs.{needs}
-use Rattle.desk.specs.Desks.{Made, made, called}
+use Rattle.desk.specs.Desks.{Made, made-fresh, called}
 use Rattle.run_desk.proofs.main.Statement.{statement}
 use Rattle.run_desk.proofs.main.Tie as tie
 
@@ -18,7 +18,7 @@ fresh-requires : tie.Need-fresh-requires Inv-loop μ-loop
 fresh-requires c κs = search needs
 
 loop-holds : tie.Need-loop-holds Inv-loop μ-loop
-loop-holds c = subst⁻¹ Made (c .fresh .ensures) made
+loop-holds c = subst⁻¹ Made (c .fresh .ensures) made-fresh
 
 add-lists : tie.Need-add-lists Inv-loop μ-loop
 add-lists c = search needs
