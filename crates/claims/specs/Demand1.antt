@@ -33,7 +33,7 @@ use Rattle.signals_in_place.proofs.update as update-lent
 use Rattle.claims.specs.Functions.{OfRead, OfAccept, OfWrite, OfHear, OfUpdate, OfUpdateLent}
 
 -- R-23: a refusal is given when its row holds and nothing earlier does, and never else
-abbrev pub RefusedBy : {Answer : Type 0} → List (Bool × ℕ) → (ℕ → Answer) → Answer → Type 0
+abbrev pub RefusedBy : {Said : Type 0} → List (Bool × ℕ) → (ℕ → Said) → Said → Type 0
 RefusedBy rows refused answer = (number : ℕ) → (answer ≡ refused number) ↔ Decides rows number
 
 -- ---- "Every list": `Desk::accept(desk, list)`

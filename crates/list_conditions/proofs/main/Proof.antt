@@ -26,11 +26,11 @@ loop-holds c = (subst⁻¹ MadeByPieces (c .before .begun .ensures) madeBegun, s
 add-pieces : tie.Need-add-pieces Inv-loop μ-loop
 add-pieces c = search needs
 
-slice-aggregate-read-full : tie.Need-slice-aggregate-read-full Inv-loop μ-loop
-slice-aggregate-read-full c = search needs
+slice-aggregate-read-piece : tie.Need-slice-aggregate-read-piece Inv-loop μ-loop
+slice-aggregate-read-piece c = search needs
 
-read-full-requires : tie.Need-read-full-requires Inv-loop μ-loop
-read-full-requires c κs = search needs
+read-piece-requires : tie.Need-read-piece-requires Inv-loop μ-loop
+read-piece-requires c κs = search needs
 
 array-share-prefix-piece : tie.Need-array-share-prefix-piece Inv-loop μ-loop
 array-share-prefix-piece c = search needs
@@ -44,8 +44,11 @@ slice-aggregate-show-piece-2 c = search needs
 show-piece-requires : tie.Need-show-piece-requires Inv-loop μ-loop
 show-piece-requires c κs = search needs
 
+is-last-requires : tie.Need-is-last-requires Inv-loop μ-loop
+is-last-requires c κs = search needs
+
 show-end-requires : tie.Need-show-end-requires Inv-loop μ-loop
-show-end-requires c κs = subst⁻¹ MadeByPieces (c .before .before .show-piece .ensures) (takenPiece (c .before .before .before .before .before .before .before .before .before .loop .inv .0) _)
+show-end-requires c κs = subst⁻¹ MadeByPieces (c .before .before .before .show-piece .ensures) (takenPiece (c .before .before .before .before .before .before .before .before .before .before .loop .inv .0) _)
 
 returns : tie.Need-returns Inv-loop μ-loop
 returns c = search needs
@@ -54,7 +57,7 @@ loop-less : tie.Need-loop-less Inv-loop μ-loop
 loop-less c = search needs
 
 loop-again : tie.Need-loop-again Inv-loop μ-loop
-loop-again c = (subst⁻¹ MadeByPieces (c .before .before .show-piece .ensures) (takenPiece (c .before .before .before .before .before .before .before .before .before .loop .inv .0) _), search needs)
+loop-again c = (subst⁻¹ MadeByPieces (c .before .before .before .show-piece .ensures) (takenPiece (c .before .before .before .before .before .before .before .before .before .before .loop .inv .0) _), search needs)
 
 returns-2 : tie.Need-returns-2 Inv-loop μ-loop
 returns-2 c = search needs
@@ -69,12 +72,13 @@ main-spec =
     show-header-requires
     loop-holds
     add-pieces
-    slice-aggregate-read-full
-    read-full-requires
+    slice-aggregate-read-piece
+    read-piece-requires
     array-share-prefix-piece
     slice-aggregate-show-piece
     slice-aggregate-show-piece-2
     show-piece-requires
+    is-last-requires
     show-end-requires
     returns
     loop-less
