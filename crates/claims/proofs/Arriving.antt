@@ -8,8 +8,7 @@ use mathlib.Core.List.{List, _∷_}
 use native.Mathlib.Omega.{arith}
 use Rattle.kit.proofs.Cases.{on, clash, given}
 use Rattle.condition.specs.Slots.{slotCount}
-use Rattle.order_list.specs.Lists.{stands, orderAt, orderCount, listedAt}
-use Rattle.order_list.proofs.Listed.{listed-there, listed-when}
+use Rattle.order_list.specs.Lists.{stands, orderAt, orderCount}
 use Rattle.places.specs.Places.{placeAt, placeOf, lowestFree, isLive}
 use Rattle.places.specs.declared.Place.{Place}
 use Rattle.places.proofs.Live.{live-there, live-when, free-there, free-before}
@@ -28,15 +27,10 @@ use Rattle.desk.proofs.Resting.{resting-exactly}
 use Rattle.desk.proofs.Seating.{inside, ordered}
 use Rattle.desk.proofs.Stepping.{Sound, next-orderly}
 use Rattle.desk.proofs.Tracing.{run-sound}
-use Rattle.claims.specs.Step.{HasSlot, Live, numberIn, Present, IsNew, TakenAtTurn, NumberRests, PermittedAtTurn, LastGiven, none-yet, passing, giving, Between, NewOrder}
+use Rattle.claims.specs.Step.{HasSlot, Live, numberIn, IsNew, TakenAtTurn, NumberRests, PermittedAtTurn, LastGiven, none-yet, passing, giving, Between, NewOrder}
+use Rattle.claims.proofs.History.{present-stands, stands-present}
 
 -- ---- the page's words and the tests of the definitions
-
-pub present-stands : (list : List ℕ) (order : ℕ) → Present list order → stands list order ≡ true
-present-stands list order (j, p, e) = listed-when list (orderCount list) order j p e
-
-pub stands-present : (list : List ℕ) (order : ℕ) → stands list order ≡ true → Present list order
-stands-present list order e = given (listed-there list (orderCount list) order e) (λ (p, same). (listedAt list (orderCount list) order, p, same))
 
 pub live-test : (desk : Desk) (order : ℕ) → Live desk order → isLive (desk .places) order ≡ true
 live-test desk order (i, (named, small, same)) = live-when (desk .places) order i small same

@@ -26,8 +26,10 @@ use Rattle.desk.proofs.Resting.{resting-exactly}
 use Rattle.desk.proofs.Seating.{inside, made-coded}
 use Rattle.desk.proofs.Stepping.{Sound, next-orderly, next-step, keeps, live-listed, has-words}
 use Rattle.desk.proofs.Tracing.{fresh-at, run-none, run-more, run-sound, older, live-newest}
-use Rattle.claims.specs.Step.{HasSlot, Live, numberIn, Present, IsNew, TakenAtTurn, NumberRests, LastGiven, none-yet, OneStep}
-use Rattle.claims.proofs.Arriving.{present-stands, stands-present, live-test, test-live, new-order, last-after}
+use Rattle.claims.specs.Calls.{Present}
+use Rattle.claims.specs.Step.{HasSlot, Live, numberIn, IsNew, TakenAtTurn, NumberRests, LastGiven, none-yet, OneStep}
+use Rattle.claims.proofs.Arriving.{live-test, test-live, new-order, last-after}
+use Rattle.claims.proofs.History.{present-stands, stands-present}
 
 -- before the first turn the last number given is that of the steps before
 first-last : (before : Desk) (list : List ℕ) (after : Desk) {last : ℕ} → LastGiven before list after 0 last → last ≡ before .last

@@ -33,7 +33,7 @@ use Rattle.desk.proofs.Seating.{inside, ordered}
 use Rattle.desk.proofs.Tracing.{fresh-at, run-sound, older}
 use Rattle.claims.specs.Calls.{deskAfter, accepted, stepsMade, upTo, deskOf, StoodIn}
 use Rattle.claims.specs.Step.{HasSlot, numberIn, NumberRests, OneStep, TheStep}
-use Rattle.claims.proofs.History.{desk-run, history-next, Span, span}
+use Rattle.claims.proofs.History.{newest-present, desk-run, history-next, Span, span}
 use Rattle.claims.proofs.StepDetermined.{alike}
 use Rattle.claims.proofs.OneStep.{fresh-says, ending-of, one-step}
 
@@ -147,7 +147,7 @@ module _ (calls : List (List ℕ)) where
           let named : placeAt (deskRun eight eight (history n) .places) i .order ≡ order = ap (λ (d : Desk). placeAt (d .places) i .order) (sym (desk-is n)) ∙ is in
           promises.eight-tables (s .lists) (history n) list i k (subst (AllAccepted eight eight) joins (desk-run eight (upTo eight calls m) .1)) (omega (arith, s .many)) (omega arith)
           (on (stands list order)
-          (λ e. absurd (gone (subst (λ (l : List (List ℕ)). InNewest order l) (sym first) e)))
+          (λ e. absurd (gone (newest-present order (history (n + 1)) (subst (λ (l : List (List ℕ)). InNewest order l) (sym first) e))))
           (λ e. subst (λ o. stands list o ≡ false) (sym named) e))
           (ap (λ (l : List (List ℕ)). numberIn (deskRun eight eight l) k) (sym joins)
           ∙ (ap (λ (d : Desk). numberIn d k) (sym (desk-is m)) ∙ (number ∙ ap (λ (d : Desk). numberIn d i) (desk-is n))))

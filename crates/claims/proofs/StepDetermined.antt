@@ -18,7 +18,8 @@ use Rattle.resting.specs.Rests.{isResting}
 use Rattle.wire.specs.Steps.{steps}
 use Rattle.desk.specs.Desks.{baseRest as eight}
 use Rattle.desk.specs.declared.Desk.{Desk}
-use Rattle.claims.specs.Step.{HasSlot, Live, numberIn, Present, IsNew, TakenAtTurn, LastGiven, none-yet, passing, giving, Between, NewOrder, OneStep, Alike}
+use Rattle.claims.specs.Calls.{Present}
+use Rattle.claims.specs.Step.{HasSlot, Live, numberIn, IsNew, TakenAtTurn, LastGiven, none-yet, passing, giving, Between, NewOrder, OneStep, Alike}
 use Rattle.claims.proofs.Arriving.{live-test, test-live}
 
 -- of two different numbers one lies between the last one given and the other

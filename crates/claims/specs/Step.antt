@@ -30,7 +30,7 @@ use Rattle.resting.specs.Rests.{isResting}
 use Rattle.desk.specs.Desks.{baseRest as eight, Made}
 use Rattle.desk.specs.Runs.{InNewest, EndedAgo, OneNew}
 use Rattle.desk.specs.declared.Desk.{Desk}
-use Rattle.claims.specs.Calls.{deskAfter, accepted, stepsMade, deskOf, StoodIn}
+use Rattle.claims.specs.Calls.{Present, deskAfter, accepted, stepsMade, deskOf, StoodIn}
 use Rattle.claims.specs.Functions.{OfFreshDesk, OfAccept}
 
 -- ---- what is spoken of
@@ -46,10 +46,6 @@ Live desk order = (i : ℕ) × HasSlot desk order i
 -- W-01: the number in slot i; 0 where it is empty
 abbrev pub numberIn : Desk → ℕ → ℕ
 numberIn desk i = placeAt (desk .places) i .slot .number
-
--- D-01, D-06: an order is present in a list
-abbrev pub Present : List ℕ → ℕ → Type 0
-Present list order = (j : ℕ) × (j < orderCount list) × (orderAt list j .number ≡ order)
 
 -- D-08, D-16: order j of the list is new: it was not live before the step
 abbrev pub IsNew : Desk → List ℕ → ℕ → Type 0
