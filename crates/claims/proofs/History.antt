@@ -43,7 +43,7 @@ present-stands list order (j, p, e) = listed-when list (orderCount list) order j
 pub stands-present : (list : List ℕ) (order : ℕ) → stands list order ≡ true → Present list order
 stands-present list order e = given (listed-there list (orderCount list) order e) (λ (p, same). (listedAt list (orderCount list) order, p, same))
 
-pub present-newest : (order : ℕ) (lists : List (List ℕ)) → Present (getD lists 0 []) order → InNewest order lists
+present-newest : (order : ℕ) (lists : List (List ℕ)) → Present (getD lists 0 []) order → InNewest order lists
 present-newest order [] (j, p, e) = omega arith
 present-newest order (list ∷ earlier) present = present-stands list order present
 
@@ -63,10 +63,10 @@ module _ (rest : ℕ) where
   unfolding deskAfter accepted
   accepted-more calls list desk call = (ap (λ a. a .desk) call, ap (λ a. listed (eqb (numberOf (a .verdict)) 0) calls list) call)
 
-  abbrev refusal : List (List ℕ) → List ℕ → ℕ
+  abbrev pub refusal : List (List ℕ) → List ℕ → ℕ
   refusal calls list = listRefusal (deskAfter rest calls .places) list
 
-  accepts-one : (calls : List (List ℕ)) (list : List ℕ) → refusal calls list ≡ 0
+  pub accepts-one : (calls : List (List ℕ)) (list : List ℕ) → refusal calls list ≡ 0
       → (deskAfter rest (list ∷ calls) ≡ stepOf rest (deskAfter rest calls) list) × (accepted rest (list ∷ calls) ≡ list ∷ accepted rest calls)
   accepts-one calls list e = accepted-more calls list (stepOf rest (deskAfter rest calls) list) (accepts rest (deskAfter rest calls) list e)
 
