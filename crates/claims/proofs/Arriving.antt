@@ -18,7 +18,7 @@ use Rattle.numbers.specs.Numbers.{hasNumber, isPermitted, nextNumber, numberAft
 use Rattle.numbers.proofs.Round.{between-before}
 use Rattle.numbers.proofs.Search.{FirstPermitted, number-none, number-some, permitted-when, permitted-only}
 use Rattle.desk.specs.Desks.{baseRest as eight}
-use Rattle.desk.specs.Runs.{deskRun, AllAccepted}
+use Rattle.desk.proofs.Runs.{deskRun, AllAccepted}
 use Rattle.desk.specs.Steps.{stepOf}
 use Rattle.desk.specs.declared.Desk.{Desk}
 use Rattle.desk.proofs.NewOrders as new-orders
@@ -39,7 +39,7 @@ live-test desk order (i, (named, small, same)) = live-when (desk .places) order 
 pub test-live : (desk : Desk) (order : ℕ) → 1 ≤ order → isLive (desk .places) order ≡ true → Live desk order
 test-live desk order p e = given (live-there (desk .places) order e) (λ (small, same). (placeOf (desk .places) order, (p, small, same)))
 
-unlive-test : (desk : Desk) (order : ℕ) → 1 ≤ order → (Live desk order → ⊥) → isLive (desk .places) order ≡ false
+pub unlive-test : (desk : Desk) (order : ℕ) → 1 ≤ order → (Live desk order → ⊥) → isLive (desk .places) order ≡ false
 unlive-test desk order p none = on (isLive (desk .places) order) (λ e. absurd (none (test-live desk order p e))) (λ e. e)
 
 -- ---- a list that is accepted after these calls

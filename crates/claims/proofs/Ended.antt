@@ -11,7 +11,7 @@ use Rattle.order_list.specs.Lists.{stands}
 use Rattle.places.specs.Places.{placeAt}
 use Rattle.resting.specs.Rests.{isResting}
 use Rattle.desk.specs.Desks.{baseRest as eight}
-use Rattle.desk.specs.Runs.{deskRun, AllAccepted, EndedAgo}
+use Rattle.desk.proofs.Runs.{deskRun, AllAccepted, EndedAgo}
 use Rattle.desk.specs.declared.Desk.{Desk}
 use Rattle.desk.proofs.Resting.{resting-exactly}
 use Rattle.desk.proofs.Seating.{inside}

@@ -22,7 +22,7 @@ use Rattle.order_list.proofs.Listed.{listed-there, listed-when}
 use Rattle.places.specs.Places.{placeAt}
 use Rattle.orders.specs.Orders.{listRefusal}
 use Rattle.desk.specs.Desks.{acceptOf}
-use Rattle.desk.specs.Runs.{deskRun, AllAccepted, Stood, InNewest}
+use Rattle.desk.proofs.Runs.{deskRun, AllAccepted, Stood, InNewest}
 use Rattle.desk.specs.Steps.{stepOf}
 use Rattle.desk.specs.declared.Desk.{Desk}
 use Rattle.desk.proofs.Making.{accepts, refuses}

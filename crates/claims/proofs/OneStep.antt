@@ -8,7 +8,7 @@ use lib.Dec.{eqb}
 use lib.ListN.{length, getD}
 use native.Mathlib.Omega.{arith}
 use borrow.Author.Tests.{eqb-true, eqb-false}
-use Rattle.kit.proofs.Cases.{on, given}
+use Rattle.kit.proofs.Cases.{on, clash, given}
 use Rattle.condition.specs.Slots.{bodyOf, codedOf, settled, kindOf}
 use Rattle.order_list.specs.Lists.{stands, orderAt, orderCount, orderNamed}
 use Rattle.order_list.specs.declared.Order.{Order}
@@ -18,7 +18,7 @@ use Rattle.orders.specs.Orders.{listRefusal}
 use Rattle.orders.proofs.Lists.{Fair, fair, listed-self}
 use Rattle.resting.specs.Rests.{isResting}
 use Rattle.desk.specs.Desks.{baseRest as eight, freshWith}
-use Rattle.desk.specs.Runs.{deskRun, AllAccepted, InNewest, EndedAgo, OneNew}
+use Rattle.desk.proofs.Runs.{deskRun, AllAccepted, InNewest, EndedAgo, OneNotLive}
 use Rattle.desk.specs.Steps.{nextStep, stepOf}
 use Rattle.desk.specs.declared.Desk.{Desk}
 use Rattle.desk.proofs.Promises as promises
@@ -26,8 +26,8 @@ use Rattle.desk.proofs.Seating.{inside, made-coded}
 use Rattle.desk.proofs.Stepping.{Sound, next-orderly, next-step, keeps, live-listed, has-words}
 use Rattle.desk.proofs.Tracing.{fresh-at, run-none, run-more, run-sound, older, live-newest}
 use Rattle.claims.specs.Calls.{Present, accepted, stepsMade, listIn}
-use Rattle.claims.specs.Step.{HasSlot, Live, numberIn, IsNew, TakenAtTurn, EndedIn, NumberRests, LastGiven, none-yet, OneStep}
-use Rattle.claims.proofs.Arriving.{live-test, test-live, one-more, new-order, last-after}
+use Rattle.claims.specs.Step.{HasSlot, Live, numberIn, IsNew, TakenAtTurn, EndedIn, NumberRests, LastGiven, none-yet, OneNew, OneStep}
+use Rattle.claims.proofs.Arriving.{live-test, test-live, unlive-test, one-more, new-order, last-after}
 use Rattle.claims.proofs.Ended.{ended-exactly, rests-exactly, rests-kept}
 use Rattle.claims.proofs.History.{present-stands, stands-present, newest-present, desk-run, up-to-all}
 
@@ -193,6 +193,15 @@ module _ (calls : List (List ℕ)) (list : List ℕ) (unrefused : listRefusal (d
   is-run : after ≡ deskRun eight eight (list ∷ lists)
   is-run = sym (run-more eight eight list lists)
 
+  one-new : (j : ℕ) → OneNew before list j → OneNotLive (before .places) list j
+  one-new j ((inlist, none), only) =
+      record {
+        inlist = inlist;
+        new = unlive-test before (named j) (listed .named j inlist) none;
+        others = λ k p other.
+            on (isLive (before .places) (named k)) (λ e. e) (λ e. absurd (other (only k (p, λ live. clash (live-test before (named k) live) e))));
+      }
+
   passed-over : (f : ℕ) → EndedIn calls f 1 → stepsMade eight calls + 1 ≡ f + 7 → (i : ℕ) → numberIn after i ≡ 1 → ⊥
   passed-over f ended now i one =
       given (ending-of lists 1 6 (ended-exactly calls f 6 1 (omega arith) .0 ended))
@@ -201,7 +210,7 @@ module _ (calls : List (List ℕ)) (list : List ℕ) (unrefused : listRefusal (d
       (subst (λ (l : List (List ℕ)). AllAccepted eight eight (list ∷ l)) (it .joins) (unrefused, good)) (it .many) i
       (subst (λ (l : List (List ℕ)). numberIn (deskRun eight eight (list ∷ l)) i ≡ 1) (it .joins) (ap (λ (desk : Desk). numberIn desk i) (sym is-run) ∙ one)))
 
-  gets-one : (f : ℕ) → EndedIn calls f 1 → stepsMade eight calls + 1 ≡ f + 8 → before .last ≡ 255 → (j : ℕ) → OneNew (before .places) list j
+  gets-one : (f : ℕ) → EndedIn calls f 1 → stepsMade eight calls + 1 ≡ f + 8 → before .last ≡ 255 → (j : ℕ) → OneNew before list j
       → (i : ℕ) × HasSlot after (named j) i × (numberIn after i ≡ 1)
   gets-one f ended now last j new =
       given (ending-of lists 1 7 (ended-exactly calls f 7 1 (omega arith) .0 ended))
@@ -210,11 +219,11 @@ module _ (calls : List (List ℕ)) (list : List ℕ) (unrefused : listRefusal (d
       (promises.p5-given (it .older) (it .ending) (it .i) (it .live) (it .had) (it .absent) (it .between) list
       (subst (λ (l : List (List ℕ)). AllAccepted eight eight (list ∷ l)) (it .joins) (unrefused, good)) (it .many)
       (subst (λ (l : List (List ℕ)). deskRun eight eight l .last ≡ 255) (it .joins) last) j
-      (subst (λ (l : List (List ℕ)). OneNew (deskRun eight eight l .places) list j) (it .joins) new))
+      (subst (λ (l : List (List ℕ)). OneNotLive (deskRun eight eight l .places) list j) (it .joins) (one-new j new)))
       (λ (i, order, number).
       let back : deskRun eight eight (list ∷ (it .between ++ (it .ending ∷ it .older))) ≡ after = ap (λ (l : List (List ℕ)). deskRun eight eight (list ∷ l)) (sym (it .joins)) ∙ sym is-run in
       let same : placeAt (after .places) i .order ≡ named j = ap (λ (desk : Desk). placeAt (desk .places) i .order) (sym back) ∙ order in
-      let some : 1 ≤ named j = listed .named j (new .inlist) in (
+      let some : 1 ≤ named j = listed .named j (new .0 .0) in (
         i,
         (some, inside (next-orderly eight eight (omega arith) (omega arith) before sound list listed) i (omega arith), same),
         ap (λ (desk : Desk). numberIn desk i) (sym back) ∙ number,

@@ -21,7 +21,7 @@ use Rattle.resting.specs.Rests.{isResting}
 use Rattle.resting.specs.declared.Ended.{Ended}
 use Rattle.resting.proofs.Rested.{covers-resting}
 use Rattle.desk.specs.Desks.{baseRest as eight, freshWith, acceptOf, Made, called}
-use Rattle.desk.specs.Runs.{deskRun, AllAccepted, EndedAgo}
+use Rattle.desk.proofs.Runs.{deskRun, AllAccepted, EndedAgo}
 use Rattle.desk.specs.Steps.{stepOf}
 use Rattle.desk.specs.declared.Answer.{Answer}
 use Rattle.desk.specs.declared.Desk.{Desk}

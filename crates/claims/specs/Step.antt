@@ -28,7 +28,6 @@ use Rattle.order_list.specs.Lists.{orderAt, orderCount}
 use Rattle.places.specs.Places.{freePlace, placeAt}
 use Rattle.resting.specs.Rests.{isResting}
 use Rattle.desk.specs.Desks.{baseRest as eight, Made}
-use Rattle.desk.specs.Runs.{OneNew}
 use Rattle.desk.specs.declared.Desk.{Desk}
 use Rattle.claims.specs.Calls.{Present, deskAfter, stepsMade, deskOf, listIn}
 use Rattle.claims.specs.Functions.{OfFreshDesk, OfAccept}
@@ -140,11 +139,15 @@ pub record OrdersArrive (calls : List (List ℕ)) (before : Desk) (list : List �
 -- ---- P5: "Last given 255; number 1 ended in step f; one new order comes. In step f+7 it is passed over; if it comes in step f+8 instead,
 -- it gets 1."
 
+-- of the orders of the list one is new: order j
+abbrev pub OneNew : Desk → List ℕ → ℕ → Type 0
+OneNew before list j = IsNew before list j × ((k : ℕ) → IsNew before list k → k ≡ j)
+
 pub record P5ForEveryStep (calls : List (List ℕ)) (before : Desk) (list : List ℕ) (after : Desk) : Type 0 where
   -- this step is f+7
   pub passed-over : (f : ℕ) → EndedIn calls f 1 → stepsMade eight calls + 1 ≡ f + 7 → (i : ℕ) → numberIn after i ≡ 1 → ⊥
   -- this step is f+8
-  pub gets-one : (f : ℕ) → EndedIn calls f 1 → stepsMade eight calls + 1 ≡ f + 8 → before .last ≡ 255 → (j : ℕ) → OneNew (before .places) list j
+  pub gets-one : (f : ℕ) → EndedIn calls f 1 → stepsMade eight calls + 1 ≡ f + 8 → before .last ≡ 255 → (j : ℕ) → OneNew before list j
       → (i : ℕ) × HasSlot after (orderAt list j .number) i × (numberIn after i ≡ 1)
 
 -- ---- one step: an accepted list, after these calls of a fresh desk, the newest first
