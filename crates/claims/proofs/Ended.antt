@@ -1,9 +1,9 @@
 -- In which step an order ended, by the desk's own calls, as specs/Step.antt says it, and by the accepted lists, as the desk's promises do.
 use Prim.Native.Nat.{ℕ, zero, suc, _+_, _-_, _<_, _≤_}
-use mathlib.Core.Path.{_≡_, sym, ap, _∙_, subst}
+use mathlib.Core.Path.{_≡_, refl, sym, ap, _∙_, subst}
 use mathlib.Core.Logic.{_↔_}
 use mathlib.Core.Bool.{true, false}
-use mathlib.Core.List.{List, [], _∷_}
+use mathlib.Core.List.{List, [], _∷_, _++_}
 use lib.ListN.{length, getD}
 use native.Mathlib.Omega.{arith}
 use Rattle.kit.proofs.Cases.{on, clash, given}
@@ -20,11 +20,44 @@ use Rattle.claims.specs.Calls.{Present, accepted, stepsMade, upTo, deskO
 use Rattle.claims.specs.Step.{numberIn, EndedIn, NumberRests}
 use Rattle.claims.proofs.History.{present-stands, stands-present, desk-run, up-to-all, made-up-to, history-next}
 
--- an order that ended so many steps ago ended in one of the lists
+-- ---- an order that ended so many steps ago ended in some list, with so many after it
+
+pub record Ending (lists : List (List ℕ)) (number ago : ℕ) : Type 0 where
+  pub between : List (List ℕ)
+  pub ending : List ℕ
+  pub older : List (List ℕ)
+  pub i : ℕ
+  pub joins : lists ≡ between ++ (ending ∷ older)
+  pub many : length between ≡ ago
+  pub live : 1 ≤ placeAt (deskRun eight eight older .places) i .order
+  pub had : numberIn (deskRun eight eight older) i ≡ number
+  pub absent : stands ending (placeAt (deskRun eight eight older .places) i .order) ≡ false
+
+pub ending-of : (lists : List (List ℕ)) (number ago : ℕ) → EndedAgo eight eight lists number ago → Ending lists number ago
+ending-of [] number ago e = absurd e
+ending-of (list ∷ lists) number zero (i, live, had, absent) =
+    record { between = []; ending = list; older = lists; i = i; joins = refl; many = refl; live = live; had = had; absent = absent }
+ending-of (list ∷ lists) number (suc ago) e =
+    given (ending-of lists number ago e)
+    (λ it.
+    record {
+      between = list ∷ it .between;
+      ending = it .ending;
+      older = it .older;
+      i = it .i;
+      joins = ap (λ l. list ∷ l) (it .joins);
+      many = ap suc (it .many);
+      live = it .live;
+      had = it .had;
+      absent = it .absent;
+    })
+
 ended-young : (lists : List (List ℕ)) (number ago : ℕ) → EndedAgo eight eight lists number ago → ago < length lists
 ended-young [] number ago e = absurd e
 ended-young (list ∷ lists) number zero e = omega arith
 ended-young (list ∷ lists) number (suc ago) e = omega (arith, ended-young lists number ago e)
+
+-- ---- and by the calls
 
 module _ (calls : List (List ℕ)) where
   abbrev pub history : ℕ → List (List ℕ)

@@ -2,7 +2,7 @@
 use Prim.Native.Nat.{ℕ, zero, suc, _+_, _-_, _<_, _≤_}
 use mathlib.Core.Path.{_≡_, refl, sym, ap, _∙_, subst}
 use mathlib.Core.Logic.{inl, inr, _↔_}
-use mathlib.Core.Bool.{true, false}
+use mathlib.Core.Bool.{true}
 use mathlib.Core.List.{List, [], _∷_, _++_}
 use lib.Dec.{eqb}
 use lib.ListN.{length, getD}
@@ -28,7 +28,7 @@ use Rattle.desk.proofs.Tracing.{fresh-at, run-none, run-more, run-sound, older,
 use Rattle.claims.specs.Calls.{Present, accepted, stepsMade, listIn}
 use Rattle.claims.specs.Step.{HasSlot, Live, numberIn, IsNew, TakenAtTurn, EndedIn, NumberRests, LastGiven, none-yet, OneNew, OneStep}
 use Rattle.claims.proofs.Arriving.{live-test, test-live, unlive-test, one-more, new-order, last-after}
-use Rattle.claims.proofs.Ended.{ended-exactly, rests-exactly, rests-kept}
+use Rattle.claims.proofs.Ended.{ending-of, ended-exactly, rests-exactly, rests-kept}
 use Rattle.claims.proofs.History.{present-stands, stands-present, newest-present, desk-run, up-to-all}
 
 -- before the first turn the last number given is that of the steps before
@@ -43,38 +43,6 @@ none-listed (list ∷ lists) e = absurd (omega arith)
 pub fresh-says : (freshWith eight .step ≡ 0) × (freshWith eight .last ≡ 0)
 unfolding freshWith
 fresh-says = (refl, refl)
-
--- ---- P5: an order that ended so many steps ago ended in some list, with so many after it
-
-pub record Ending (lists : List (List ℕ)) (number ago : ℕ) : Type 0 where
-  pub between : List (List ℕ)
-  pub ending : List ℕ
-  pub older : List (List ℕ)
-  pub i : ℕ
-  pub joins : lists ≡ between ++ (ending ∷ older)
-  pub many : length between ≡ ago
-  pub live : 1 ≤ placeAt (deskRun eight eight older .places) i .order
-  pub had : numberIn (deskRun eight eight older) i ≡ number
-  pub absent : stands ending (placeAt (deskRun eight eight older .places) i .order) ≡ false
-
-pub ending-of : (lists : List (List ℕ)) (number ago : ℕ) → EndedAgo eight eight lists number ago → Ending lists number ago
-ending-of [] number ago e = absurd e
-ending-of (list ∷ lists) number zero (i, live, had, absent) =
-    record { between = []; ending = list; older = lists; i = i; joins = refl; many = refl; live = live; had = had; absent = absent }
-ending-of (list ∷ lists) number (suc ago) e =
-    given (ending-of lists number ago e)
-    (λ it.
-    record {
-      between = list ∷ it .between;
-      ending = it .ending;
-      older = it .older;
-      i = it .i;
-      joins = ap (λ l. list ∷ l) (it .joins);
-      many = ap suc (it .many);
-      live = it .live;
-      had = it .had;
-      absent = it .absent;
-    })
 
 -- ---- one step
 

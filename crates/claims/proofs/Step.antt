@@ -31,10 +31,10 @@ use Rattle.desk.proofs.Seating.{inside, ordered}
 use Rattle.desk.proofs.Tracing.{fresh-at, older}
 use Rattle.claims.specs.Calls.{deskAfter, accepted, stepsMade, upTo, deskOf}
 use Rattle.claims.specs.Step.{numberIn, EndedIn, NumberRests, OneStep, TheStep}
-use Rattle.claims.proofs.Ended.{ended-then, rests-kept}
+use Rattle.claims.proofs.Ended.{ending-of, ended-then, rests-kept}
 use Rattle.claims.proofs.History.{desk-run}
 use Rattle.claims.proofs.StepDetermined.{alike}
-use Rattle.claims.proofs.OneStep.{fresh-says, ending-of, one-step}
+use Rattle.claims.proofs.OneStep.{fresh-says, one-step}
 
 -- R-26: the calls of a fresh desk
 made-calls : {desk : Desk} → Made desk → (calls : List (List ℕ)) × (desk ≡ deskAfter eight calls)

@@ -14,7 +14,9 @@
 --
 -- How a step is reckoned, the contracts say: by `stepOf` (desk/specs/Steps.antt) and, below it, `endedNumbers`, `seatedAll`, `lowestFree`
 -- and `nextNumber`. This page says what comes of it, without any of these: of the desk before the step, the list, and the desk after, by
--- their slots, numbers and lists alone. It is said of the contract of `Desk::accept` (Functions.antt). proofs/Step.antt proves it.
+-- their slots, numbers and lists alone; of the steps before, by the desk's own calls: its table and its list of each step, and how many
+-- it has made (Calls.antt). Where it is told that what a desk keeps of ended numbers is right, it is read by `isResting`, as the desk reads
+-- it. All is said of the contract of `Desk::accept` (Functions.antt). proofs/Step.antt proves it.
 use Prim.Native.Nat.{ℕ, zero, suc, _+_, _<_, _≤_}
 use mathlib.Core.Path.{_≡_}
 use mathlib.Core.Logic.{_⊎_, _↔_}
@@ -57,8 +59,8 @@ TakenAtTurn before list after j k =
     ((order : ℕ) × HasSlot before order k × Present list order)
     ⊎ ((m : ℕ) × (m < j) × IsNew before list m × HasSlot after (orderAt list m .number) k)
 
--- D-06, D-12: of these calls of a fresh desk, the newest first: an order that had the number ended in step f. It has a slot in the step
--- before, with that number there, and is absent from the list of step f.
+-- D-06, D-12: of the calls of a fresh desk, the newest first: an order that had the number ended in step f. It has a slot in the step before,
+-- with that number there, and is absent from the list of step f.
 abbrev pub EndedIn : List (List ℕ) → ℕ → ℕ → Type 0
 EndedIn calls f number =
     (n order i : ℕ) × (f ≡ n + 1) × (f ≤ stepsMade eight calls) × HasSlot (deskOf eight calls n) order i × (numberIn (deskOf eight calls n) i ≡ number)
