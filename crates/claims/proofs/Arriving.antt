@@ -8,8 +8,7 @@ use mathlib.Core.List.{List, _∷_}
 use native.Mathlib.Omega.{arith}
 use Rattle.kit.proofs.Cases.{on, clash, given}
 use Rattle.condition.specs.Slots.{slotCount}
-use Rattle.order_list.specs.Lists.{stands, orderAt, orderCount, listedAt}
-use Rattle.order_list.proofs.Listed.{listed-there, listed-when}
+use Rattle.order_list.specs.Lists.{stands, orderAt, orderCount}
 use Rattle.places.specs.Places.{placeAt, placeOf, lowestFree, isLive}
 use Rattle.places.specs.declared.Place.{Place}
 use Rattle.places.proofs.Live.{live-there, live-when, free-there, free-before}
@@ -19,24 +18,20 @@ use Rattle.numbers.specs.Numbers.{hasNumber, isPermitted, nextNumber, numberAft
 use Rattle.numbers.proofs.Round.{between-before}
 use Rattle.numbers.proofs.Search.{FirstPermitted, number-none, number-some, permitted-when, permitted-only}
 use Rattle.desk.specs.Desks.{baseRest as eight}
-use Rattle.desk.specs.Runs.{deskRun, AllAccepted}
+use Rattle.desk.proofs.Runs.{deskRun, AllAccepted}
 use Rattle.desk.specs.Steps.{stepOf}
 use Rattle.desk.specs.declared.Desk.{Desk}
 use Rattle.desk.proofs.NewOrders as new-orders
 use Rattle.desk.proofs.NewOrders.{run-last}
-use Rattle.desk.proofs.Resting.{resting-exactly}
 use Rattle.desk.proofs.Seating.{inside, ordered}
 use Rattle.desk.proofs.Stepping.{Sound, next-orderly}
 use Rattle.desk.proofs.Tracing.{run-sound}
-use Rattle.claims.specs.Step.{HasSlot, Live, numberIn, Present, IsNew, TakenAtTurn, NumberRests, PermittedAtTurn, LastGiven, none-yet, passing, giving, Between, NewOrder}
+use Rattle.claims.specs.Calls.{accepted}
+use Rattle.claims.specs.Step.{HasSlot, Live, numberIn, IsNew, TakenAtTurn, NumberRests, PermittedAtTurn, LastGiven, none-yet, passing, giving, Between, NewOrder}
+use Rattle.claims.proofs.Ended.{rests-kept}
+use Rattle.claims.proofs.History.{present-stands, stands-present, accepts-one, desk-run}
 
 -- ---- the page's words and the tests of the definitions
-
-pub present-stands : (list : List ℕ) (order : ℕ) → Present list order → stands list order ≡ true
-present-stands list order (j, p, e) = listed-when list (orderCount list) order j p e
-
-pub stands-present : (list : List ℕ) (order : ℕ) → stands list order ≡ true → Present list order
-stands-present list order e = given (listed-there list (orderCount list) order e) (λ (p, same). (listedAt list (orderCount list) order, p, same))
 
 pub live-test : (desk : Desk) (order : ℕ) → Live desk order → isLive (desk .places) order ≡ true
 live-test desk order (i, (named, small, same)) = live-when (desk .places) order i small same
@@ -44,12 +39,22 @@ live-test desk order (i, (named, small, same)) = live-when (desk .places) order 
 pub test-live : (desk : Desk) (order : ℕ) → 1 ≤ order → isLive (desk .places) order ≡ true → Live desk order
 test-live desk order p e = given (live-there (desk .places) order e) (λ (small, same). (placeOf (desk .places) order, (p, small, same)))
 
-unlive-test : (desk : Desk) (order : ℕ) → 1 ≤ order → (Live desk order → ⊥) → isLive (desk .places) order ≡ false
+pub unlive-test : (desk : Desk) (order : ℕ) → 1 ≤ order → (Live desk order → ⊥) → isLive (desk .places) order ≡ false
 unlive-test desk order p none = on (isLive (desk .places) order) (λ e. absurd (none (test-live desk order p e))) (λ e. e)
 
--- ---- a list that is accepted after these
+-- ---- a list that is accepted after these calls
 
-module _ (lists : List (List ℕ)) (good : AllAccepted eight eight lists) (list : List ℕ) (unrefused : listRefusal (deskRun eight eight lists .places) list ≡ 0) where
+module _ (calls : List (List ℕ)) (list : List ℕ) (unrefused : listRefusal (deskRun eight eight (accepted eight calls) .places) list ≡ 0) where
+  abbrev lists : List (List ℕ)
+  lists = accepted eight calls
+
+  good : AllAccepted eight eight lists
+  good = desk-run eight calls .1
+
+  -- D-02: it makes a step
+  pub one-more : accepted eight (list ∷ calls) ≡ list ∷ lists
+  one-more = accepts-one eight calls list (subst (λ (d : Desk). listRefusal (d .places) list ≡ 0) (sym (desk-run eight calls .0)) unrefused) .1
+
   abbrev before : Desk
   before = deskRun eight eight lists
 
@@ -76,9 +81,9 @@ module _ (lists : List (List ℕ)) (good : AllAccepted eight eight lists) (list 
   resting = new-orders.resting eight eight (omega arith) (omega arith) before sound list listed
 
   -- D-12: what rests in this step
-  rests-now : (number : ℕ) → 1 ≤ number → (resting number ≡ true) ↔ NumberRests (list ∷ lists) number
+  rests-now : (number : ℕ) → 1 ≤ number → (resting number ≡ true) ↔ NumberRests (list ∷ calls) number
   unfolding deskRun stepOf
-  rests-now number p = resting-exactly eight eight (omega arith) (omega arith) (list ∷ lists) number (unrefused, good) p
+  rests-now number p = rests-kept (list ∷ calls) (list ∷ lists) one-more number p
 
   to-the-end : (j k : ℕ) → j ≤ orderCount list → 1 ≤ placeAt (turned j) k .order → placeAt (after .places) k ≡ placeAt (turned j) k
   to-the-end = new-orders.to-the-end eight eight (omega arith) (omega arith) before sound list listed
@@ -109,7 +114,7 @@ module _ (lists : List (List ℕ)) (good : AllAccepted eight eight lists) (list 
             )
 
     -- D-12: the numbers that are permitted
-    permitted-here : (number : ℕ) → 1 ≤ number → isPermitted resting (turned j) number ≡ true → PermittedAtTurn lists before list after j number
+    permitted-here : (number : ℕ) → 1 ≤ number → isPermitted resting (turned j) number ≡ true → PermittedAtTurn calls before list after j number
     permitted-here number positive e =
         given (permitted-only resting (turned j) number e)
         (λ (idle, rested). (
@@ -120,7 +125,7 @@ module _ (lists : List (List ℕ)) (good : AllAccepted eight eight lists) (list 
           λ r. clash (rests-now number positive .1 r) rested,
         ))
 
-    permitted-there : (number : ℕ) → 1 ≤ number → PermittedAtTurn lists before list after j number → isPermitted resting (turned j) number ≡ true
+    permitted-there : (number : ℕ) → 1 ≤ number → PermittedAtTurn calls before list after j number → isPermitted resting (turned j) number ≡ true
     permitted-there number positive (none, rested) =
         permitted-when resting (turned j) number
         (on (hasNumber (turned j) number)
@@ -180,7 +185,7 @@ module _ (lists : List (List ℕ)) (good : AllAccepted eight eight lists) (list 
       subst (λ n. LastGiven before list after (orderCount list) n) (sym (new-orders.at-end eight eight (omega arith) (omega arith) before sound list listed .1))
       (last-at (orderCount list) (omega arith))
 
-  pub new-order : (j : ℕ) → IsNew before list j → NewOrder lists before list after j
+  pub new-order : (j : ℕ) → IsNew before list j → NewOrder calls before list after j
   new-order j new =
       let inlist : j ≤ orderCount list = omega (arith, new .0) in
       let is : numberIn after (slot j new) ≡ number j new = given-slot j new .2 in

@@ -6,7 +6,7 @@ use mathlib.Core.Logic.{_↔_}
 use mathlib.Core.Bool.{Bool, true, false, cond}
 use mathlib.Core.List.{List, [], _∷_, _++_}
 use lib.Dec.{eqb, ltb}
-use lib.ListN.{length}
+use lib.ListN.{length, getD}
 use native.Mathlib.Omega.{arith}
 use native.Mathlib.Nat.{add-zero}
 use borrow.Author.Tests.{eqb-true, eqb-false, ne-eqb, ltb-true, ltb-false, lt-ltb, le-ltb}
@@ -17,10 +17,12 @@ use Rattle.wire.specs.Verdicts.{numberOf}
 use Rattle.wire.specs.declared.verdicts.Verdict.the-variants.{Accepted as Passed}
 use Rattle.condition.proofs.Coding.{held-occupied}
 use Rattle.telegram.specs.Tables.{tableSlot}
+use Rattle.order_list.specs.Lists.{stands, orderCount, listedAt}
+use Rattle.order_list.proofs.Listed.{listed-there, listed-when}
 use Rattle.places.specs.Places.{placeAt}
 use Rattle.orders.specs.Orders.{listRefusal}
 use Rattle.desk.specs.Desks.{acceptOf}
-use Rattle.desk.specs.Runs.{deskRun, AllAccepted, Stood, InNewest}
+use Rattle.desk.proofs.Runs.{deskRun, AllAccepted, Stood, InNewest}
 use Rattle.desk.specs.Steps.{stepOf}
 use Rattle.desk.specs.declared.Desk.{Desk}
 use Rattle.desk.proofs.Making.{accepts, refuses}
@@ -31,7 +33,23 @@ use Rattle.desk.proofs.Tracing.{at, run-none, run-more, run-sound, run-step, sa
 use Rattle.picture.specs.Pictures.{clashes}
 use Rattle.picture.proofs.Clashing.{no-clash}
 use Rattle.marks.proofs.Carrying.{InPicture}
-use Rattle.claims.specs.Calls.{deskAfter, accepted, stepsMade, upTo, deskOf, tableIn, orderIn, StoodIn, StoodFrom}
+use Rattle.claims.specs.Calls.{Present, deskAfter, accepted, stepsMade, upTo, deskOf, tableIn, orderIn, StoodIn, StoodFrom}
+
+-- ---- present in a list, and the search that the definitions make
+
+pub present-stands : (list : List ℕ) (order : ℕ) → Present list order → stands list order ≡ true
+present-stands list order (j, p, e) = listed-when list (orderCount list) order j p e
+
+pub stands-present : (list : List ℕ) (order : ℕ) → stands list order ≡ true → Present list order
+stands-present list order e = given (listed-there list (orderCount list) order e) (λ (p, same). (listedAt list (orderCount list) order, p, same))
+
+present-newest : (order : ℕ) (lists : List (List ℕ)) → Present (getD lists 0 []) order → InNewest order lists
+present-newest order [] (j, p, e) = omega arith
+present-newest order (list ∷ earlier) present = present-stands list order present
+
+pub newest-present : (order : ℕ) (lists : List (List ℕ)) → InNewest order lists → Present (getD lists 0 []) order
+newest-present order [] e = absurd e
+newest-present order (list ∷ earlier) e = stands-present list order e
 
 module _ (rest : ℕ) where
   -- ---- one call more
@@ -45,10 +63,10 @@ module _ (rest : ℕ) where
   unfolding deskAfter accepted
   accepted-more calls list desk call = (ap (λ a. a .desk) call, ap (λ a. listed (eqb (numberOf (a .verdict)) 0) calls list) call)
 
-  abbrev refusal : List (List ℕ) → List ℕ → ℕ
+  abbrev pub refusal : List (List ℕ) → List ℕ → ℕ
   refusal calls list = listRefusal (deskAfter rest calls .places) list
 
-  accepts-one : (calls : List (List ℕ)) (list : List ℕ) → refusal calls list ≡ 0
+  pub accepts-one : (calls : List (List ℕ)) (list : List ℕ) → refusal calls list ≡ 0
       → (deskAfter rest (list ∷ calls) ≡ stepOf rest (deskAfter rest calls) list) × (accepted rest (list ∷ calls) ≡ list ∷ accepted rest calls)
   accepts-one calls list e = accepted-more calls list (stepOf rest (deskAfter rest calls) list) (accepts rest (deskAfter rest calls) list e)
 
@@ -158,8 +176,10 @@ module _ (rest : ℕ) where
           lists = [];
           joins = ap (history calls) (add-zero m);
           many = refl;
-          to = λ order s i j a b. let e : m ≡ j = omega arith in subst (λ t. StoodIn rest calls order t) e i;
-          from = λ order t. (tt, t m (omega arith) (omega arith));
+          to = λ order s i j a b.
+              let e : m ≡ j = omega arith in
+              subst (λ t. StoodIn rest calls order t) e (newest-present order (history calls m) i);
+          from = λ order t. (tt, present-newest order (history calls m) (t m (omega arith) (omega arith)));
         }
     span m (suc k) h = go (span m k (omega arith)) (history-next calls (m + k) (omega arith))
       where
@@ -172,11 +192,13 @@ module _ (rest : ℕ) where
               many = ap suc (s .many);
               to = λ order (here, before) i j a b.
                   on (eqb j (suc (m + k)))
-                  (λ z. subst (λ t. StoodIn rest calls order t) (sym (eqb-true j (suc (m + k)) z)) (subst (InNewest order) (sym more) here))
+                  (λ z.
+                  subst (λ t. StoodIn rest calls order t) (sym (eqb-true j (suc (m + k)) z))
+                  (newest-present order (history calls (suc (m + k))) (subst (InNewest order) (sym more) here)))
                   (λ z. s .to order before i j a (omega (arith, eqb-false j (suc (m + k)) z)));
               from = λ order t.
                   given (s .from order (λ j a b. t j a (omega arith)))
-                  (λ (stood, i). ((subst (InNewest order) more (t (suc (m + k)) (omega arith) (omega arith)), stood), i));
+                  (λ (stood, i). ((subst (InNewest order) more (present-newest order (history calls (suc (m + k))) (t (suc (m + k)) (omega arith) (omega arith))), stood), i));
             }
 
   -- ---- the tables of a run, the rest being 11 or less

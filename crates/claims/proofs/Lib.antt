@@ -2,6 +2,7 @@ pub mod Arriving
 pub mod Demand1
 pub mod Demand2
 pub mod Demand3
+pub mod Ended
 pub mod Ends
 pub mod Following
 pub mod Functions

@@ -2,13 +2,13 @@
 use Prim.Native.Nat.{ℕ, zero, suc, _+_, _-_, _<_, _≤_}
 use mathlib.Core.Path.{_≡_, refl, sym, ap, _∙_, subst}
 use mathlib.Core.Logic.{inl, inr, _↔_}
-use mathlib.Core.Bool.{true, false}
+use mathlib.Core.Bool.{true}
 use mathlib.Core.List.{List, [], _∷_, _++_}
 use lib.Dec.{eqb}
-use lib.ListN.{length}
+use lib.ListN.{length, getD}
 use native.Mathlib.Omega.{arith}
 use borrow.Author.Tests.{eqb-true, eqb-false}
-use Rattle.kit.proofs.Cases.{on, given}
+use Rattle.kit.proofs.Cases.{on, clash, given}
 use Rattle.condition.specs.Slots.{bodyOf, codedOf, settled, kindOf}
 use Rattle.order_list.specs.Lists.{stands, orderAt, orderCount, orderNamed}
 use Rattle.order_list.specs.declared.Order.{Order}
@@ -18,60 +18,41 @@ use Rattle.orders.specs.Orders.{listRefusal, Fair}
 use Rattle.orders.proofs.Lists.{fair, listed-self}
 use Rattle.resting.specs.Rests.{isResting}
 use Rattle.desk.specs.Desks.{baseRest as eight, freshWith}
-use Rattle.desk.specs.Runs.{deskRun, AllAccepted, InNewest, EndedAgo, OneNew}
+use Rattle.desk.proofs.Runs.{deskRun, AllAccepted, InNewest, EndedAgo, OneNotLive}
 use Rattle.desk.specs.Steps.{nextStep, stepOf}
 use Rattle.desk.specs.declared.Desk.{Desk}
 use Rattle.desk.proofs.Promises as promises
-use Rattle.desk.proofs.Resting.{resting-exactly}
 use Rattle.desk.proofs.Seating.{inside, made-coded}
 use Rattle.desk.proofs.Stepping.{Sound, next-orderly, next-step, keeps, live-listed, has-words}
 use Rattle.desk.proofs.Tracing.{fresh-at, run-none, run-more, run-sound, older, live-newest}
-use Rattle.claims.specs.Step.{HasSlot, Live, numberIn, Present, IsNew, TakenAtTurn, NumberRests, LastGiven, none-yet, OneStep}
-use Rattle.claims.proofs.Arriving.{present-stands, stands-present, live-test, test-live, new-order, last-after}
+use Rattle.claims.specs.Calls.{Present, accepted, stepsMade, listIn}
+use Rattle.claims.specs.Step.{HasSlot, Live, numberIn, IsNew, TakenAtTurn, EndedIn, NumberRests, LastGiven, none-yet, OneNew, OneStep}
+use Rattle.claims.proofs.Arriving.{live-test, test-live, unlive-test, one-more, new-order, last-after}
+use Rattle.claims.proofs.Ended.{ending-of, ended-exactly, rests-exactly, rests-kept}
+use Rattle.claims.proofs.History.{present-stands, stands-present, newest-present, desk-run, up-to-all}
 
 -- before the first turn the last number given is that of the steps before
 first-last : (before : Desk) (list : List ℕ) (after : Desk) {last : ℕ} → LastGiven before list after 0 last → last ≡ before .last
 first-last before list after none-yet = refl
 
+-- where no step was made no list was accepted
+none-listed : (lists : List (List ℕ)) → length lists ≡ 0 → lists ≡ []
+none-listed [] e = refl
+none-listed (list ∷ lists) e = absurd (omega arith)
+
 pub fresh-says : (freshWith eight .step ≡ 0) × (freshWith eight .last ≡ 0)
 unfolding freshWith
 fresh-says = (refl, refl)
 
--- ---- P5: an order that ended so many steps ago ended in some list, with so many after it
-
-pub record Ending (lists : List (List ℕ)) (number ago : ℕ) : Type 0 where
-  pub between : List (List ℕ)
-  pub ending : List ℕ
-  pub older : List (List ℕ)
-  pub i : ℕ
-  pub joins : lists ≡ between ++ (ending ∷ older)
-  pub many : length between ≡ ago
-  pub live : 1 ≤ placeAt (deskRun eight eight older .places) i .order
-  pub had : numberIn (deskRun eight eight older) i ≡ number
-  pub absent : stands ending (placeAt (deskRun eight eight older .places) i .order) ≡ false
-
-pub ending-of : (lists : List (List ℕ)) (number ago : ℕ) → EndedAgo eight eight lists number ago → Ending lists number ago
-ending-of [] number ago e = absurd e
-ending-of (list ∷ lists) number zero (i, live, had, absent) =
-    record { between = []; ending = list; older = lists; i = i; joins = refl; many = refl; live = live; had = had; absent = absent }
-ending-of (list ∷ lists) number (suc ago) e =
-    given (ending-of lists number ago e)
-    (λ it.
-    record {
-      between = list ∷ it .between;
-      ending = it .ending;
-      older = it .older;
-      i = it .i;
-      joins = ap (λ l. list ∷ l) (it .joins);
-      many = ap suc (it .many);
-      live = it .live;
-      had = it .had;
-      absent = it .absent;
-    })
-
 -- ---- one step
 
-module _ (lists : List (List ℕ)) (good : AllAccepted eight eight lists) (list : List ℕ) (unrefused : listRefusal (deskRun eight eight lists .places) list ≡ 0) where
+module _ (calls : List (List ℕ)) (list : List ℕ) (unrefused : listRefusal (deskRun eight eight (accepted eight calls) .places) list ≡ 0) where
+  abbrev lists : List (List ℕ)
+  lists = accepted eight calls
+
+  good : AllAccepted eight eight lists
+  good = desk-run eight calls .1
+
   abbrev before : Desk
   before = deskRun eight eight lists
 
@@ -124,9 +105,9 @@ module _ (lists : List (List ℕ)) (good : AllAccepted eight eight lists) (list 
       (λ s. ((some, small, s .order ∙ same), s .number, s .kind))
 
   -- D-11
-  one-first : lists ≡ [] → 1 ≤ orderCount list → (i : ℕ) × HasSlot after (named 0) i × (numberIn after i ≡ 1)
-  one-first none some =
-      let given-one = new-order lists good list unrefused 0 (omega arith, λ (i, (one, small, same)). omega (arith, vacant i)) in
+  one-first : stepsMade eight calls ≡ 0 → 1 ≤ orderCount list → (i : ℕ) × HasSlot after (named 0) i × (numberIn after i ≡ 1)
+  one-first unstepped some =
+      let given-one = new-order calls list unrefused 0 (omega arith, λ (i, (one, small, same)). omega (arith, vacant i)) in
       let slot = given-one .slot in (
         slot,
         given-one .has,
@@ -138,6 +119,9 @@ module _ (lists : List (List ℕ)) (good : AllAccepted eight eight lists) (list 
             (inl (omega (arith, first-last before list after (given-one .last-given) ∙ last-zero), omega (arith, given-one .range .0, eqb-false (numberIn after slot) 1 e))) (no-slot, no-rest))),
       )
     where
+      none : lists ≡ []
+      none = none-listed lists unstepped
+
       fresh : before ≡ freshWith eight
       fresh = ap (deskRun eight eight) none ∙ run-none eight eight
 
@@ -151,54 +135,71 @@ module _ (lists : List (List ℕ)) (good : AllAccepted eight eight lists) (list 
       no-slot k (inl (order, (one, small, same), present)) e = omega (arith, vacant k)
       no-slot k (inr (m, below, new, has)) e = omega arith
 
-      none-ended : NumberRests (list ∷ []) 1 → ⊥
+      none-ended : (ago : ℕ) × (ago < eight) × EndedAgo eight eight (list ∷ []) 1 ago → ⊥
       none-ended (zero, young, (i, one, number, absent)) = omega (arith, ap (λ (desk : Desk). placeAt (desk .places) i .order) (run-none eight eight) ∙ ap (λ (x : Place). x .order) (fresh-at eight i))
       none-ended (suc ago, young, e) = e
 
-      no-rest : NumberRests (list ∷ lists) 1 → ⊥
-      no-rest r = none-ended (subst (λ (l : List (List ℕ)). NumberRests (list ∷ l) 1) none r)
+      no-rest : NumberRests (list ∷ calls) 1 → ⊥
+      no-rest r =
+          none-ended
+          (subst (λ (l : List (List ℕ)). (ago : ℕ) × (ago < eight) × EndedAgo eight eight l 1 ago) (one-more calls list unrefused ∙ ap (λ l. list ∷ l) none)
+          (rests-exactly (list ∷ calls) 1 .0 r))
 
   -- D-16
-  comes-back : (j : ℕ) → j < orderCount list → (InNewest (named j) lists → ⊥) → IsNew before list j
+  comes-back : (j : ℕ) → j < orderCount list → (Present (listIn eight calls (stepsMade eight calls)) (named j) → ⊥) → IsNew before list j
   comes-back j p absent = (
     p,
     λ (i, (some, small, same)).
-        absurd (absent (subst (λ o. InNewest o lists) same (live-newest eight eight (omega arith) (omega arith) lists i good (omega arith)))),
+        let newest : InNewest (named j) lists = subst (λ o. InNewest o lists) same (live-newest eight eight (omega arith) (omega arith) lists i good (omega arith)) in
+        absurd
+        (absent
+        (subst (λ (c : List (List ℕ)). Present (getD (accepted eight c) 0 []) (named j)) (sym (up-to-all eight calls (stepsMade eight calls) (omega arith)))
+        (newest-present (named j) lists newest))),
   )
 
   -- P5
   is-run : after ≡ deskRun eight eight (list ∷ lists)
   is-run = sym (run-more eight eight list lists)
 
-  passed-over : EndedAgo eight eight lists 1 6 → (i : ℕ) → numberIn after i ≡ 1 → ⊥
-  passed-over ended i one =
-      given (ending-of lists 1 6 ended)
+  one-new : (j : ℕ) → OneNew before list j → OneNotLive (before .places) list j
+  one-new j ((inlist, none), only) =
+      record {
+        inlist = inlist;
+        new = unlive-test before (named j) (listed .named j inlist) none;
+        others = λ k p other.
+            on (isLive (before .places) (named k)) (λ e. e) (λ e. absurd (other (only k (p, λ live. clash (live-test before (named k) live) e))));
+      }
+
+  passed-over : (f : ℕ) → EndedIn calls f 1 → stepsMade eight calls + 1 ≡ f + 7 → (i : ℕ) → numberIn after i ≡ 1 → ⊥
+  passed-over f ended now i one =
+      given (ending-of lists 1 6 (ended-exactly calls f 6 1 (omega arith) .0 ended))
       (λ it.
       promises.p5-passed-over (it .older) (it .ending) (it .i) (it .live) (it .had) (it .absent) (it .between) list
       (subst (λ (l : List (List ℕ)). AllAccepted eight eight (list ∷ l)) (it .joins) (unrefused, good)) (it .many) i
       (subst (λ (l : List (List ℕ)). numberIn (deskRun eight eight (list ∷ l)) i ≡ 1) (it .joins) (ap (λ (desk : Desk). numberIn desk i) (sym is-run) ∙ one)))
 
-  gets-one : EndedAgo eight eight lists 1 7 → before .last ≡ 255 → (j : ℕ) → OneNew (before .places) list j → (i : ℕ) × HasSlot after (named j) i × (numberIn after i ≡ 1)
-  gets-one ended last j new =
-      given (ending-of lists 1 7 ended)
+  gets-one : (f : ℕ) → EndedIn calls f 1 → stepsMade eight calls + 1 ≡ f + 8 → before .last ≡ 255 → (j : ℕ) → OneNew before list j
+      → (i : ℕ) × HasSlot after (named j) i × (numberIn after i ≡ 1)
+  gets-one f ended now last j new =
+      given (ending-of lists 1 7 (ended-exactly calls f 7 1 (omega arith) .0 ended))
       (λ it.
       given
       (promises.p5-given (it .older) (it .ending) (it .i) (it .live) (it .had) (it .absent) (it .between) list
       (subst (λ (l : List (List ℕ)). AllAccepted eight eight (list ∷ l)) (it .joins) (unrefused, good)) (it .many)
       (subst (λ (l : List (List ℕ)). deskRun eight eight l .last ≡ 255) (it .joins) last) j
-      (subst (λ (l : List (List ℕ)). OneNew (deskRun eight eight l .places) list j) (it .joins) new))
+      (subst (λ (l : List (List ℕ)). OneNotLive (deskRun eight eight l .places) list j) (it .joins) (one-new j new)))
       (λ (i, order, number).
       let back : deskRun eight eight (list ∷ (it .between ++ (it .ending ∷ it .older))) ≡ after = ap (λ (l : List (List ℕ)). deskRun eight eight (list ∷ l)) (sym (it .joins)) ∙ sym is-run in
       let same : placeAt (after .places) i .order ≡ named j = ap (λ (desk : Desk). placeAt (desk .places) i .order) (sym back) ∙ order in
-      let some : 1 ≤ named j = listed .named j (new .inlist) in (
+      let some : 1 ≤ named j = listed .named j (new .0 .0) in (
         i,
         (some, inside (next-orderly eight eight (omega arith) (omega arith) before sound list listed) i (omega arith), same),
         ap (λ (desk : Desk). numberIn desk i) (sym back) ∙ number,
       )))
 
-  rests : (number : ℕ) → 1 ≤ number → (isResting eight (after .step) (after .ended) number ≡ true) ↔ NumberRests (list ∷ lists) number
+  rests : (number : ℕ) → 1 ≤ number → (isResting eight (after .step) (after .ended) number ≡ true) ↔ NumberRests (list ∷ calls) number
   unfolding deskRun
-  rests number p = resting-exactly eight eight (omega arith) (omega arith) (list ∷ lists) number (unrefused, good) p
+  rests number p = rests-kept (list ∷ calls) (list ∷ lists) (one-more calls list unrefused) number p
 
   -- D-06: a slot that no order has
   empty : (i : ℕ) → ((order : ℕ) → HasSlot after order i → ⊥) → placeAt (after .places) i ≡ freePlace
@@ -211,7 +212,7 @@ module _ (lists : List (List ℕ)) (good : AllAccepted eight eight lists) (list 
       let some : 1 ≤ placeAt (after .places) i .order = omega (arith, eqb-false (placeAt (after .places) i .order) 0 e) in
       absurd (none (placeAt (after .places) i .order) (some, inside orderly i some, refl))))
 
-  pub one-step : OneStep lists before list after
+  pub one-step : OneStep calls before list after
   one-step =
       record {
         counts = record { rises = λ p. rises ∙ omega arith; round = λ p. rises ∙ omega arith; below = omega (arith, rises) };
@@ -221,13 +222,13 @@ module _ (lists : List (List ℕ)) (good : AllAccepted eight eight lists) (list 
               single = λ order i k (some, small, same) (some-too, small-too, same-too).
                   next-orderly eight eight (omega arith) (omega arith) before sound list listed .single i k (omega arith) (same ∙ sym same-too);
               empty = empty;
-              stays = stays;
+              keeps = stays;
               words = words;
             };
         arrive =
             record {
-              new = new-order lists good list unrefused;
-              last = last-after lists good list unrefused;
+              new = new-order calls list unrefused;
+              last = last-after calls list unrefused;
               one-first = one-first;
               comes-back = comes-back;
             };

@@ -18,7 +18,8 @@ use Rattle.resting.specs.Rests.{isResting}
 use Rattle.wire.specs.Steps.{steps}
 use Rattle.desk.specs.Desks.{baseRest as eight}
 use Rattle.desk.specs.declared.Desk.{Desk}
-use Rattle.claims.specs.Step.{HasSlot, Live, numberIn, Present, IsNew, TakenAtTurn, LastGiven, none-yet, passing, giving, Between, NewOrder, OneStep, Alike}
+use Rattle.claims.specs.Calls.{Present}
+use Rattle.claims.specs.Step.{HasSlot, Live, numberIn, IsNew, TakenAtTurn, LastGiven, none-yet, passing, giving, Between, NewOrder, OneStep, Alike}
 use Rattle.claims.proofs.Arriving.{live-test, test-live}
 
 -- of two different numbers one lies between the last one given and the other
@@ -42,7 +43,7 @@ between-one last a b differ =
     (λ f. inl (inr (ltb-false last b e, inl (ltb-true last a f))))
     (λ f. inr (inr (ltb-false last a f, inr b<a)))))
 
-module _ (lists : List (List ℕ)) (before : Desk) (list : List ℕ) where
+module _ (calls : List (List ℕ)) (before : Desk) (list : List ℕ) where
   abbrev named : ℕ → ℕ
   named j = orderAt list j .number
 
@@ -55,9 +56,9 @@ module _ (lists : List (List ℕ)) (before : Desk) (list : List ℕ) where
 
   -- ---- one turn
 
-  module _ (one other : Desk) (first : OneStep lists before list one) (second : OneStep lists before list other) (j : ℕ) (agree : Agree one other j) where
+  module _ (one other : Desk) (first : OneStep calls before list one) (second : OneStep calls before list other) (j : ℕ) (agree : Agree one other j) where
     taken-too : (k : ℕ) → TakenAtTurn before list one j k → TakenAtTurn before list other j k × (numberIn one k ≡ numberIn other k)
-    taken-too k (inl (order, has, present)) = (inl (order, has, present), first .stay .stays order k has present .1 ∙ sym (second .stay .stays order k has present .1))
+    taken-too k (inl (order, has, present)) = (inl (order, has, present), first .stay .keeps order k has present .1 ∙ sym (second .stay .keeps order k has present .1))
     taken-too k (inr (m, below, new, has)) =
         given (agree m below new)
         (λ (i, here, there, same).
@@ -78,12 +79,12 @@ module _ (lists : List (List ℕ)) (before : Desk) (list : List ℕ) where
             ap (numberIn one) (first .stay .single (named j) i s has here) ∙ (same ∙ ap (numberIn other) (second .stay .single (named j) s k there has-too)))
 
   -- of two desks after the step, the first takes no lower slot than the second, and no number that comes sooner
-  module _ (one other : Desk) (first : OneStep lists before list one) (second : OneStep lists before list other) (j : ℕ) (agree : Agree one other j)
+  module _ (one other : Desk) (first : OneStep calls before list one) (second : OneStep calls before list other) (j : ℕ) (agree : Agree one other j)
       (new : IsNew before list j) where
-    abbrev this : NewOrder lists before list one j
+    abbrev this : NewOrder calls before list one j
     this = first .arrive .new j new
 
-    abbrev that : NewOrder lists before list other j
+    abbrev that : NewOrder calls before list other j
     that = second .arrive .new j new
 
     no-lower : this .slot < that .slot → ⊥
@@ -94,7 +95,7 @@ module _ (lists : List (List ℕ)) (before : Desk) (list : List ℕ) where
         that .first (numberIn one (this .slot)) (this .range .0) (this .range .1) between
         (λ k t e. given (taken-too other one second first j (swap one other j agree) k t) (λ (t-too, same). this .permitted .0 k t-too (sym same ∙ e)), this .permitted .1)
 
-  module _ (one other : Desk) (first : OneStep lists before list one) (second : OneStep lists before list other) where
+  module _ (one other : Desk) (first : OneStep calls before list one) (second : OneStep calls before list other) where
     next : (j : ℕ) → Agree one other j → (new : IsNew before list j)
         → (i : ℕ) × HasSlot one (named j) i × HasSlot other (named j) i × (numberIn one i ≡ numberIn other i)
     next j agree new = (
@@ -104,10 +105,10 @@ module _ (lists : List (List ℕ)) (before : Desk) (list : List ℕ) where
       number ∙ ap (numberIn other) (sym slot),
     )
       where
-        this : NewOrder lists before list one j
+        this : NewOrder calls before list one j
         this = first .arrive .new j new
 
-        that : NewOrder lists before list other j
+        that : NewOrder calls before list other j
         that = second .arrive .new j new
 
         slot : this .slot ≡ that .slot
@@ -151,8 +152,8 @@ module _ (lists : List (List ℕ)) (before : Desk) (list : List ℕ) where
       where
         stayed : Live before order → Present list order → HasSlot other order i × (numberIn one i ≡ numberIn other i)
         stayed (k, has) present =
-            let one-too = first .stay .stays order k has present in
-            let other-too = second .stay .stays order k has present in
+            let one-too = first .stay .keeps order k has present in
+            let other-too = second .stay .keeps order k has present in
             let e : k ≡ i = first .stay .single order k i (one-too .0) (some, small, same) in
             subst (λ k. HasSlot other order k × (numberIn one k ≡ numberIn other k)) e (other-too .0, one-too .1 ∙ sym (other-too .1))
 
@@ -190,9 +191,9 @@ same-test : {P : Type 0} (a b : Bool) → (a ≡ true) ↔ P → (b ≡ true) �
 same-test a b p q =
     on a (λ e. e ∙ sym (q .1 (p .0 e))) (λ e. on b (λ f. absurd (clash (p .1 (q .0 f)) e)) (λ f. e ∙ sym f))
 
-pub alike : (lists : List (List ℕ)) (before : Desk) (list : List ℕ) (one other : Desk) → before .step < steps → OneStep lists before list one
-    → OneStep lists before list other → Alike one other
-alike lists before list one other below first second =
+pub alike : (calls : List (List ℕ)) (before : Desk) (list : List ℕ) (one other : Desk) → before .step < steps → OneStep calls before list one
+    → OneStep calls before list other → Alike one other
+alike calls before list one other below first second =
     record {
       step =
           on (eqb (before .step + 1) steps)
@@ -200,7 +201,7 @@ alike lists before list one other below first second =
           (λ e.
           let more : before .step + 1 < steps = omega (arith, eqb-false (before .step + 1) steps e) in
           first .counts .rises more ∙ sym (second .counts .rises more));
-      last = last-same lists before list one other first second (orderCount list) (all lists before list one other first second (orderCount list)) (first .arrive .last) (second .arrive .last);
+      last = last-same calls before list one other first second (orderCount list) (all calls before list one other first second (orderCount list)) (first .arrive .last) (second .arrive .last);
       orders = λ i. place i (filled one i) (filled other i) .0;
       table = λ i. place i (filled one i) (filled other i) .1;
       rests = λ number p.
@@ -213,11 +214,11 @@ alike lists before list one other below first second =
         → (placeAt (one .places) i .order ≡ placeAt (other .places) i .order)
         × (codedOf (placeAt (one .places) i .slot) ≡ codedOf (placeAt (other .places) i .slot))
     place i (inl has) there = (
-      sym (same-slot lists before list one other first second (placeAt (one .places) i .order) i has .0 .2),
-      same-words lists before list one other first second (placeAt (one .places) i .order) i has,
+      sym (same-slot calls before list one other first second (placeAt (one .places) i .order) i has .0 .2),
+      same-words calls before list one other first second (placeAt (one .places) i .order) i has,
     )
     place i (inr none) (inl has) =
-        absurd (none (placeAt (other .places) i .order) (same-slot lists before list other one second first (placeAt (other .places) i .order) i has .0))
+        absurd (none (placeAt (other .places) i .order) (same-slot calls before list other one second first (placeAt (other .places) i .order) i has .0))
     place i (inr none) (inr none-too) =
         let e : placeAt (one .places) i ≡ placeAt (other .places) i = first .stay .empty i none ∙ sym (second .stay .empty i none-too) in
         (ap (λ (x : Place). x .order) e, ap (λ (x : Place). codedOf (x .slot)) e)

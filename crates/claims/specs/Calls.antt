@@ -1,15 +1,20 @@
 -- A fresh desk and its calls: lists of any bytes, those that it refuses among them, the newest first.
-use Prim.Native.Nat.{ℕ, _≤_}
+use Prim.Native.Nat.{ℕ, _<_, _≤_}
+use mathlib.Core.Path.{_≡_}
 use mathlib.Core.Bool.{Bool, cond}
 use mathlib.Core.List.{List, [], _∷_}
 use lib.Dec.{eqb, ltb}
-use lib.ListN.{length}
+use lib.ListN.{length, getD}
 use Rattle.wire.specs.Verdicts.{numberOf}
 use Rattle.condition.specs.declared.slots.Slot.{Slot}
+use Rattle.order_list.specs.Lists.{orderAt, orderCount}
 use Rattle.places.specs.Places.{placeAt}
 use Rattle.desk.specs.Desks.{freshWith, acceptOf, tableOf}
-use Rattle.desk.specs.Runs.{InNewest}
 use Rattle.desk.specs.declared.Desk.{Desk}
+
+-- D-01, D-06: an order is present in a list
+abbrev pub Present : List ℕ → ℕ → Type 0
+Present list order = (j : ℕ) × (j < orderCount list) × (orderAt list j .number ≡ order)
 
 -- for how many steps an ended number rests: 8 in document 01
 module _ (rest : ℕ) where
@@ -49,9 +54,13 @@ module _ (rest : ℕ) where
     abbrev pub orderIn : ℕ → ℕ → ℕ
     orderIn n i = placeAt (deskOf n .places) i .order
 
-    -- M-3c, M-3d: an order stood in the accepted list of step n; the list of step 0, a fresh desk's, counts as empty
+    -- D-02: the accepted list of step n, the newest then; D-05, M-3d: that of step 0, a fresh desk's, counts as empty
+    abbrev pub listIn : ℕ → List ℕ
+    listIn n = getD (accepted (upTo calls n)) 0 []
+
+    -- M-3c: an order stood in the accepted list of step n
     abbrev pub StoodIn : ℕ → ℕ → Type 0
-    StoodIn order n = InNewest order (accepted (upTo calls n))
+    StoodIn order n = Present (listIn n) order
 
     -- M-3c, A-23: it stood in every accepted list from step m to step n, both among them
     abbrev pub StoodFrom : ℕ → ℕ → ℕ → Type 0

@@ -14,7 +14,9 @@
 --
 -- How a step is reckoned, the contracts say: by `stepOf` (desk/specs/Steps.antt) and, below it, `endedNumbers`, `seatedAll`, `lowestFree`
 -- and `nextNumber`. This page says what comes of it, without any of these: of the desk before the step, the list, and the desk after, by
--- their slots, numbers and lists alone. It is said of the contract of `Desk::accept` (Functions.antt). proofs/Step.antt proves it.
+-- their slots, numbers and lists alone; of the steps before, by the desk's own calls: its table and its list of each step, and how many
+-- it has made (Calls.antt). Where it is told that what a desk keeps of ended numbers is right, it is read by `isResting`, as the desk reads
+-- it. All is said of the contract of `Desk::accept` (Functions.antt). proofs/Step.antt proves it.
 use Prim.Native.Nat.{ℕ, zero, suc, _+_, _<_, _≤_}
 use mathlib.Core.Path.{_≡_}
 use mathlib.Core.Logic.{_⊎_, _↔_}
@@ -28,9 +30,8 @@ use Rattle.order_list.specs.Lists.{orderAt, orderCount}
 use Rattle.places.specs.Places.{freePlace, placeAt}
 use Rattle.resting.specs.Rests.{isResting}
 use Rattle.desk.specs.Desks.{baseRest as eight, Made}
-use Rattle.desk.specs.Runs.{InNewest, EndedAgo, OneNew}
 use Rattle.desk.specs.declared.Desk.{Desk}
-use Rattle.claims.specs.Calls.{deskAfter, accepted, stepsMade, deskOf, StoodIn}
+use Rattle.claims.specs.Calls.{Present, deskAfter, stepsMade, deskOf, listIn}
 use Rattle.claims.specs.Functions.{OfFreshDesk, OfAccept}
 
 -- ---- what is spoken of
@@ -47,10 +48,6 @@ Live desk order = (i : ℕ) × HasSlot desk order i
 abbrev pub numberIn : Desk → ℕ → ℕ
 numberIn desk i = placeAt (desk .places) i .slot .number
 
--- D-01, D-06: an order is present in a list
-abbrev pub Present : List ℕ → ℕ → Type 0
-Present list order = (j : ℕ) × (j < orderCount list) × (orderAt list j .number ≡ order)
-
 -- D-08, D-16: order j of the list is new: it was not live before the step
 abbrev pub IsNew : Desk → List ℕ → ℕ → Type 0
 IsNew before list j = (j < orderCount list) × (Live before (orderAt list j .number) → ⊥)
@@ -62,15 +59,22 @@ TakenAtTurn before list after j k =
     ((order : ℕ) × HasSlot before order k × Present list order)
     ⊎ ((m : ℕ) × (m < j) × IsNew before list m × HasSlot after (orderAt list m .number) k)
 
--- D-12: after these accepted lists, the newest first, an order that had the number ended in the newest of the steps or in one of the seven
--- before it
-abbrev pub NumberRests : List (List ℕ) → ℕ → Type 0
-NumberRests lists number = (ago : ℕ) × (ago < eight) × EndedAgo eight eight lists number ago
+-- D-06, D-12: of the calls of a fresh desk, the newest first: an order that had the number ended in step f. It has a slot in the step before,
+-- with that number there, and is absent from the list of step f.
+abbrev pub EndedIn : List (List ℕ) → ℕ → ℕ → Type 0
+EndedIn calls f number =
+    (n order i : ℕ) × (f ≡ n + 1) × (f ≤ stepsMade eight calls) × HasSlot (deskOf eight calls n) order i × (numberIn (deskOf eight calls n) i ≡ number)
+    × (Present (listIn eight calls f) order → ⊥)
 
--- D-12: a number is permitted when order j has its turn: none of the orders that have a slot then has it, and it does not rest
+-- D-12: a number rests after these calls: an order that had it ended in the newest step or in one of the seven before it
+abbrev pub NumberRests : List (List ℕ) → ℕ → Type 0
+NumberRests calls number = (f : ℕ) × EndedIn calls f number × (stepsMade eight calls < f + eight)
+
+-- D-12: a number is permitted when order j has its turn: none of the orders that have a slot then has it, and it does not rest, what ends in
+-- this step counted
 abbrev pub PermittedAtTurn : List (List ℕ) → Desk → List ℕ → Desk → ℕ → ℕ → Type 0
-PermittedAtTurn lists before list after j number =
-    ((k : ℕ) → TakenAtTurn before list after j k → numberIn after k ≡ number → ⊥) × (NumberRests (list ∷ lists) number → ⊥)
+PermittedAtTurn calls before list after j number =
+    ((k : ℕ) → TakenAtTurn before list after j k → numberIn after k ≡ number → ⊥) × (NumberRests (list ∷ calls) number → ⊥)
 
 -- D-09: the last number given when order j has its turn: that of the nearest new order before it in the list; where there is none, the last
 -- one given before this step
@@ -100,18 +104,18 @@ pub record OrdersStay (before : Desk) (list : List ℕ) (after : Desk) : Type 0 
   pub single : (order i k : ℕ) → HasSlot after order i → HasSlot after order k → i ≡ k
   pub empty : (i : ℕ) → ((order : ℕ) → HasSlot after order i → ⊥) → placeAt (after .places) i ≡ freePlace
   -- D-07: one that stays keeps slot, number and type
-  pub stays : (order i : ℕ) → HasSlot before order i → Present list order
+  pub keeps : (order i : ℕ) → HasSlot before order i → Present list order
       → HasSlot after order i × (numberIn after i ≡ numberIn before i) × (kindOf (placeAt (after .places) i .slot) ≡ kindOf (placeAt (before .places) i .slot))
   -- D-07, D-08, K-11: each has the list's type and words, a second word that is not considered held as zero
   pub words : (j i : ℕ) → j < orderCount list → HasSlot after (orderAt list j .number) i
-      → let order = orderAt list j in
-      codedOf (placeAt (after .places) i .slot) ≡ settled (record { number = numberIn after i; kind = order .kind; first = order .first; second = order .second })
+      → let listed = orderAt list j in
+      codedOf (placeAt (after .places) i .slot) ≡ settled (record { number = numberIn after i; kind = listed .kind; first = listed .first; second = listed .second })
 
 -- ---- "New orders, in list order, take the lowest free slot and the first permitted number after the last one given. 255 is followed by
 -- 1; 0 is never given. A fresh desk gives 1 first."
 
 -- what order j of the list is given, if it is new
-pub record NewOrder (lists : List (List ℕ)) (before : Desk) (list : List ℕ) (after : Desk) (j : ℕ) : Type 0 where
+pub record NewOrder (calls : List (List ℕ)) (before : Desk) (list : List ℕ) (after : Desk) (j : ℕ) : Type 0 where
   -- D-08: a slot that is free at its turn, and no lower one is
   pub slot : ℕ
   pub has : HasSlot after (orderAt list j .number) slot
@@ -119,40 +123,44 @@ pub record NewOrder (lists : List (List ℕ)) (before : Desk) (list : List ℕ) 
   pub lowest : (k : ℕ) → k < slot → TakenAtTurn before list after j k
   -- D-09, D-10, D-12: a number from 1 to 255 that is permitted at its turn, and none is that lies between the last one given and it
   pub range : (1 ≤ numberIn after slot) × (numberIn after slot ≤ 255)
-  pub permitted : PermittedAtTurn lists before list after j (numberIn after slot)
+  pub permitted : PermittedAtTurn calls before list after j (numberIn after slot)
   pub last : ℕ
   pub last-given : LastGiven before list after j last
-  pub first : (number : ℕ) → 1 ≤ number → number ≤ 255 → Between last number (numberIn after slot) → PermittedAtTurn lists before list after j number → ⊥
+  pub first : (number : ℕ) → 1 ≤ number → number ≤ 255 → Between last number (numberIn after slot) → PermittedAtTurn calls before list after j number → ⊥
 
-pub record OrdersArrive (lists : List (List ℕ)) (before : Desk) (list : List ℕ) (after : Desk) : Type 0 where
+pub record OrdersArrive (calls : List (List ℕ)) (before : Desk) (list : List ℕ) (after : Desk) : Type 0 where
   -- D-08 to D-10, D-12
-  pub new : (j : ℕ) → IsNew before list j → NewOrder lists before list after j
+  pub new : (j : ℕ) → IsNew before list j → NewOrder calls before list after j
   -- D-09: and the next step goes on from the last number that this one gave
   pub last : LastGiven before list after (orderCount list) (after .last)
-  -- D-11: where no list was accepted before
-  pub one-first : lists ≡ [] → 1 ≤ orderCount list → (i : ℕ) × HasSlot after (orderAt list 0 .number) i × (numberIn after i ≡ 1)
-  -- D-16: "An order that ends and comes back is new.": so is every order that is not in the accepted list before this one
-  pub comes-back : (j : ℕ) → j < orderCount list → (InNewest (orderAt list j .number) lists → ⊥) → IsNew before list j
+  -- D-11: where no step was made before
+  pub one-first : stepsMade eight calls ≡ 0 → 1 ≤ orderCount list → (i : ℕ) × HasSlot after (orderAt list 0 .number) i × (numberIn after i ≡ 1)
+  -- D-16: "An order that ends and comes back is new.": so is every order that is absent from the list of the step before this one
+  pub comes-back : (j : ℕ) → j < orderCount list → (Present (listIn eight calls (stepsMade eight calls)) (orderAt list j .number) → ⊥) → IsNew before list j
 
 -- ---- P5: "Last given 255; number 1 ended in step f; one new order comes. In step f+7 it is passed over; if it comes in step f+8 instead,
 -- it gets 1."
 
-pub record P5ForEveryStep (lists : List (List ℕ)) (before : Desk) (list : List ℕ) (after : Desk) : Type 0 where
-  -- the newest list before this step is that of step f+6
-  pub passed-over : EndedAgo eight eight lists 1 6 → (i : ℕ) → numberIn after i ≡ 1 → ⊥
-  -- it is that of step f+7
-  pub gets-one : EndedAgo eight eight lists 1 7 → before .last ≡ 255 → (j : ℕ) → OneNew (before .places) list j
+-- of the orders of the list one is new: order j
+abbrev pub OneNew : Desk → List ℕ → ℕ → Type 0
+OneNew before list j = IsNew before list j × ((k : ℕ) → IsNew before list k → k ≡ j)
+
+pub record P5ForEveryStep (calls : List (List ℕ)) (before : Desk) (list : List ℕ) (after : Desk) : Type 0 where
+  -- this step is f+7
+  pub passed-over : (f : ℕ) → EndedIn calls f 1 → stepsMade eight calls + 1 ≡ f + 7 → (i : ℕ) → numberIn after i ≡ 1 → ⊥
+  -- this step is f+8
+  pub gets-one : (f : ℕ) → EndedIn calls f 1 → stepsMade eight calls + 1 ≡ f + 8 → before .last ≡ 255 → (j : ℕ) → OneNew before list j
       → (i : ℕ) × HasSlot after (orderAt list j .number) i × (numberIn after i ≡ 1)
 
--- ---- one step, the accepted lists before it standing the newest first
+-- ---- one step: an accepted list, after these calls of a fresh desk, the newest first
 
-pub record OneStep (lists : List (List ℕ)) (before : Desk) (list : List ℕ) (after : Desk) : Type 0 where
+pub record OneStep (calls : List (List ℕ)) (before : Desk) (list : List ℕ) (after : Desk) : Type 0 where
   pub counts : StepCounts before after
   pub stay : OrdersStay before list after
-  pub arrive : OrdersArrive lists before list after
+  pub arrive : OrdersArrive calls before list after
   -- D-12, A-05: what the desk keeps of ended numbers says exactly which of them rest, however long it has run
-  pub rests : (number : ℕ) → 1 ≤ number → (isResting eight (after .step) (after .ended) number ≡ true) ↔ NumberRests (list ∷ lists) number
-  pub p5 : P5ForEveryStep lists before list after
+  pub rests : (number : ℕ) → 1 ≤ number → (isResting eight (after .step) (after .ended) number ≡ true) ↔ NumberRests (list ∷ calls) number
+  pub p5 : P5ForEveryStep calls before list after
 
 -- two desks are alike in all that is told above: step number, last number given, the order, number, type and words of each slot, and which
 -- numbers rest
@@ -167,28 +175,28 @@ pub record Alike (one other : Desk) : Type 0 where
 
 pub record TheStep : Type 0 where
   -- "A fresh desk is at step 0 with all slots empty." (D-04) It has given no number (D-11).
-  pub fresh : OfFreshDesk (λ desk. (desk .step ≡ 0) × (desk .last ≡ 0) × ((i : ℕ) → placeAt (desk .places) i ≡ freePlace))
+  pub fresh : OfFreshDesk (λ desk. (desk ≡ deskAfter eight []) × (desk .step ≡ 0) × (desk .last ≡ 0) × ((i : ℕ) → placeAt (desk .places) i ≡ freePlace))
+  -- R-26: a call leaves the desk of one call more, whether its list is accepted or refused
+  pub goes-on : OfAccept (λ desk list answer. (calls : List (List ℕ)) → desk ≡ deskAfter eight calls → answer .desk ≡ deskAfter eight (list ∷ calls))
   -- R-26: a desk that a making and earlier calls gave is one that a fresh desk became by some calls
-  pub made : (desk : Desk) → Made desk ↔ ((calls : List (List ℕ)) × (desk ≡ deskAfter eight calls))
+  pub by-calls : (desk : Desk) → Made desk ↔ ((calls : List (List ℕ)) × (desk ≡ deskAfter eight calls))
   -- "An accepted list makes one step" (D-02)
   pub steps-so : OfAccept (λ desk list answer. (calls : List (List ℕ)) → desk ≡ deskAfter eight calls → answer .verdict ≡ Accepted
-      → OneStep (accepted eight calls) desk list (answer .desk))
+      → OneStep calls desk list (answer .desk))
   -- and what is told of a step leaves nothing of it open: desks of which it is true are alike
-  pub determined : (calls : List (List ℕ)) (list : List ℕ) (one other : Desk) → OneStep (accepted eight calls) (deskAfter eight calls) list one
-      → OneStep (accepted eight calls) (deskAfter eight calls) list other → Alike one other
-  -- "So eight tables in a row go without it.": where an order has slot i in step n and is absent from the list of step n + 1, the tables
-  -- of steps n + 1 to n + 8 go without its number (D-13)
-  pub eight-tables : (calls : List (List ℕ)) (n order i : ℕ) → n + 1 ≤ stepsMade eight calls → HasSlot (deskOf eight calls n) order i
-      → (StoodIn eight calls order (n + 1) → ⊥)
-      → (m k : ℕ) → n + 1 ≤ m → m ≤ n + 8 → m ≤ stepsMade eight calls → numberIn (deskOf eight calls m) k ≡ numberIn (deskOf eight calls n) i → ⊥
+  pub determined : (calls : List (List ℕ)) (list : List ℕ) (one other : Desk) → OneStep calls (deskAfter eight calls) list one
+      → OneStep calls (deskAfter eight calls) list other → Alike one other
+  -- "So eight tables in a row go without it.": the tables of steps f to f + 7, where an order that had the number ended in step f (D-13)
+  pub eight-tables : (calls : List (List ℕ)) (f number : ℕ) → EndedIn calls f number
+      → (m i : ℕ) → f ≤ m → m < f + 8 → m ≤ stepsMade eight calls → numberIn (deskOf eight calls m) i ≡ number → ⊥
   -- "At most 160 numbers rest at once" (D-14): of numbers that rest, all different, there are no more
   pub few-rest : (calls : List (List ℕ)) (numbers : List ℕ)
       → ((i k : ℕ) → i < length numbers → k < length numbers → getD numbers i 0 ≡ getD numbers k 0 → i ≡ k)
-      → ((i : ℕ) → i < length numbers → NumberRests (accepted eight calls) (getD numbers i 0))
+      → ((i : ℕ) → i < length numbers → NumberRests calls (getD numbers i 0))
       → length numbers ≤ 160
   -- "hence a permitted one always exists" (D-15); that each new order finds one is `NewOrder`
   pub one-permitted : (calls : List (List ℕ))
-      → (number : ℕ) × (1 ≤ number) × (number ≤ 255) × ((i : ℕ) → numberIn (deskAfter eight calls) i ≡ number → ⊥) × (NumberRests (accepted eight calls) number → ⊥)
+      → (number : ℕ) × (1 ≤ number) × (number ≤ 255) × ((i : ℕ) → numberIn (deskAfter eight calls) i ≡ number → ⊥) × (NumberRests calls number → ⊥)
   -- "An empty list is accepted and ends everything." (D-17)
   pub empty : OfAccept (λ desk list answer. Made desk → list ≡ [] → (answer .verdict ≡ Accepted) × ((i : ℕ) → placeAt (answer .desk .places) i ≡ freePlace))
   -- "A refused list makes no step and shortens no rest." (D-18)

@@ -4,6 +4,7 @@ pub mod Making
 pub mod NewOrders
 pub mod Promises
 pub mod Resting
+pub mod Runs
 pub mod Seating
 pub mod Staying
 pub mod Stepping

@@ -11,7 +11,7 @@ use Rattle.wire.specs.declared.verdicts.Verdict.the-variants.{Accepted as accep
 use Rattle.orders.specs.Orders.{listRefusal}
 use Rattle.desk.specs.declared.Desk.{Desk}
 use Rattle.desk.specs.Desks.{baseRest, acceptOf, Made, made-fresh, called}
-use Rattle.desk.specs.Runs.{deskRun, AllAccepted}
+use Rattle.desk.proofs.Runs.{deskRun, AllAccepted}
 use Rattle.desk.specs.Steps.{stepOf}
 use Rattle.desk.proofs.Stepping.{Sound}
 use Rattle.desk.proofs.Tracing.{run-sound}

@@ -29,7 +29,7 @@ use Rattle.arriving.proofs.Seated.{newPlace}
 use Rattle.desk.specs.Steps.{nextStep, keptPlace, endedNumbers, stepOf}
 use Rattle.desk.specs.declared.Desk.{Desk}
 use Rattle.desk.specs.Desks.{freshWith}
-use Rattle.desk.specs.Runs.{deskRun, AllAccepted}
+use Rattle.desk.proofs.Runs.{deskRun, AllAccepted}
 use Rattle.desk.proofs.Arrivals as arrivals
 use Rattle.desk.proofs.Endings.{kept-at}
 use Rattle.desk.proofs.Seating.{Orderly, After}

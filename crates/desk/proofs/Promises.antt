@@ -25,7 +25,7 @@ use Rattle.orders.proofs.Rows.{list-numbered}
 use Rattle.desk.specs.Desks.{baseRest, acceptOf, packetOf, Made}
 use Rattle.leaving.specs.Leaving.{bodyIn}
 use Rattle.desk.specs.Steps.{keptPlace}
-use Rattle.desk.specs.Runs.{deskRun, AllAccepted as Accepted-run, OneNew}
+use Rattle.desk.proofs.Runs.{deskRun, AllAccepted as Accepted-run, OneNotLive}
 use Rattle.desk.specs.declared.Answer.{Answer}
 use Rattle.desk.specs.declared.Desk.{Desk}
 use Rattle.resting.specs.Rests.{isResting}
@@ -155,7 +155,7 @@ module _ (earlier : List (List ℕ)) (ending : List ℕ) (i : ℕ) (live : 1 ≤
       passed-over baseRest baseRest (omega arith) (omega arith) earlier ending i live ended between list accepted (omega arith) k (same ∙ sym one)
 
   -- if it comes in step f + 8 instead, and the last number given is 255, it gets 1
-  pub p5-given : length between ≡ 7 → before .last ≡ 255 → (j : ℕ) → OneNew (before .places) list j
+  pub p5-given : length between ≡ 7 → before .last ≡ 255 → (j : ℕ) → OneNotLive (before .places) list j
       → (k : ℕ) × (at with-it k .order ≡ orderAt list j .number) × (at with-it k .slot .number ≡ 1)
   p5-given eight last j new =
       let turn : numberAfter (before .last) 0 ≡ at (desk-after earlier) i .slot .number = ap (λ n. numberAfter n 0) last ∙ sym one in

@@ -12,7 +12,7 @@ use Rattle.orders.proofs.Lists.{fair}
 use Rattle.resting.specs.Rests.{endedAt, isResting}
 use Rattle.resting.specs.declared.Ended.{Ended}
 use Rattle.resting.proofs.Rested.{resting-some, resting-when}
-use Rattle.desk.specs.Runs.{deskRun, AllAccepted, EndedAgo}
+use Rattle.desk.proofs.Runs.{deskRun, AllAccepted, EndedAgo}
 use Rattle.desk.proofs.Seating.{inside}
 use Rattle.desk.proofs.Stepping.{Sound, Entry, begun, moved, entry, rests, moves}
 use Rattle.desk.proofs.Tracing.{at, run-sound, fresh-ended}

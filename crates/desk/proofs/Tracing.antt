@@ -23,7 +23,7 @@ use Rattle.resting.specs.Rests.{noneEnded, endedAt}
 use Rattle.resting.specs.declared.Ended.{Ended}
 use Rattle.desk.specs.declared.Desk.{Desk}
 use Rattle.desk.specs.Desks.{freshWith}
-use Rattle.desk.specs.Runs.{deskRun, AllAccepted, Stood, InNewest}
+use Rattle.desk.proofs.Runs.{deskRun, AllAccepted, Stood, InNewest}
 use Rattle.desk.specs.Steps.{stepOf}
 use Rattle.desk.proofs.Seating.{inside, ordered}
 use Rattle.desk.proofs.Stepping.{Sound, Was, stayed, placed, free, was, keeps, live-listed, rests, moves, next-sound, not-given}

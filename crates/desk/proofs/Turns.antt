@@ -24,7 +24,7 @@ use Rattle.orders.proofs.Lists.{fair}
 use Rattle.resting.specs.Rests.{isResting}
 use Rattle.numbers.specs.Numbers.{hasNumber, isPermitted, nextNumber, numberAfter}
 use Rattle.numbers.proofs.Search.{number-first, number-some}
-use Rattle.desk.specs.Runs.{deskRun, AllAccepted, EndedAgo, OneNew}
+use Rattle.desk.proofs.Runs.{deskRun, AllAccepted, EndedAgo, OneNotLive}
 use Rattle.desk.specs.Steps.{keptPlace, stepOf, nextStep, endedNumbers}
 use Rattle.desk.specs.declared.Desk.{Desk}
 use Rattle.arriving.specs.Arriving.{seated, seatedAll}
@@ -40,7 +40,7 @@ use Rattle.desk.proofs.Tracing.{at, run-sound, rested, older}
 
 -- ---- placing a list with one new order is placing that one
 
-module _ (resting : ℕ → Bool) (list : List ℕ) (start : Seats) (j : ℕ) (one : OneNew (start .places) list j)
+module _ (resting : ℕ → Bool) (list : List ℕ) (start : Seats) (j : ℕ) (one : OneNotLive (start .places) list j)
     (named : (k : ℕ) → k < orderCount list → 1 ≤ orderAt list k .number) (rooms : RoomForAll resting list start (orderCount list)) where
   abbrev turn : ℕ → Seats → Seats
   turn k = seated resting (orderAt list k)
@@ -101,11 +101,11 @@ module _ (resting : ℕ → Bool) (list : List ℕ) (start : Seats) (j : ℕ) (o
 
 -- ---- the same, seen from the desk before the step
 
-module _ {old : List Place} (o : Orderly old) {list : List ℕ} (f : Fair old list) {j : ℕ} (one : OneNew old list j) where
+module _ {old : List Place} (o : Orderly old) {list : List ℕ} (f : Fair old list) {j : ℕ} (one : OneNotLive old list j) where
   abbrev kept : List Place
   kept = map (keptPlace list) old
 
-  pub one-kept : OneNew kept list j
+  pub one-kept : OneNotLive kept list j
   one-kept =
       record {
         inlist = one .inlist;
@@ -166,7 +166,7 @@ module _ (rest rows : ℕ) (enough : rest ≤ rows) (few : rows ≤ 11)
   resting = isResting rest (nextStep (before .step)) (endedNumbers list (nextStep (before .step)) (before .places) (before .ended))
 
   -- in step f + rest it is given, if its turn has come
-  module _ (now : length between + 1 ≡ rest) (in-turn : numberAfter (before .last) 0 ≡ number) (j : ℕ) (one : OneNew (before .places) list j) where
+  module _ (now : length between + 1 ≡ rest) (in-turn : numberAfter (before .last) 0 ≡ number) (j : ℕ) (one : OneNotLive (before .places) list j) where
     s : Sound rows before
     s = run-sound rest rows enough few (between ++ (ending ∷ h)) (accepted .1)
 

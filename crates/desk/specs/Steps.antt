@@ -6,7 +6,8 @@
 --   D-02  an accepted list makes one step: `acceptOf` (Desks.antt), `stepOf`
 --   D-03  the step number rises by one, 8,191 is followed by 0: `nextStep`, `steps` (wire/specs/Steps.antt)
 --   D-04  a fresh desk is at step 0 with all slots empty: `freshWith` (Desks.antt), `freePlace` (places/specs/Places.antt)
---   D-05  its table is one like any other, and counts as that of an empty list: `tableOf`, `packetOf` (Desks.antt); `InNewest` (Runs.antt)
+--   D-05  its table is one like any other, and counts as that of an empty list: `tableOf`, `packetOf` (Desks.antt); `listIn`
+--         (claims/specs/Calls.antt)
 --   D-06  an order absent has ended and its slot is free: `ends`, `keptAmong` (leaving/specs/Leaving.antt)
 --   D-07  an order present keeps slot and number and takes the new words: `keptAmong`, `bodyIn` (leaving/specs/Leaving.antt)
 --   D-08  new orders, in list order, take the lowest free slot: `seated`, `seatedAll` (arriving/specs/Arriving.antt), `lowestFree`
@@ -15,7 +16,7 @@
 --   D-10  255 is followed by 1, 0 is never given: `numberAfter` (numbers/specs/Numbers.antt)
 --   D-11  a fresh desk gives 1 first: `numberAfter` of the last number 0, which `freshWith` (Desks.antt) has
 --   D-12  which numbers are permitted: `isPermitted` (numbers/specs/Numbers.antt), `isResting` (resting/specs/Rests.antt), `endedAmong`
---         (leaving/specs/Leaving.antt); of the lists themselves `EndedAgo` (Runs.antt)
+--         (leaving/specs/Leaving.antt); of the lists themselves `NumberRests` (claims/specs/Step.antt)
 --   D-13  eight tables in a row go without an ended number: `baseRest` (Desks.antt)
 --   D-14  at most 160 rest at once: a fresh desk keeps so many entries, `freshDesk` (Desks.antt), and so does every step
 --   D-15  a permitted number always exists: a theorem on `nextNumber` (numbers/proofs/Search.antt); there is no answer that says none

@@ -10,7 +10,7 @@ use borrow.Author.Tests.{eqb-true, eqb-false, eq-eqb, ne-eqb}
 use Rattle.kit.specs.Ladder.{ladder, Decides, NoneHolds, Numbered}
 use Rattle.kit.proofs.Cases.{on}
 use Rattle.kit.proofs.Ladder.{refused-exactly, passed-exactly, decides-positive}
-use Rattle.wire.specs.Verdicts.{Ruling, ruledAccepted, ruledRefused, rulingOf, numberOf, verdictOf}
+use Rattle.wire.specs.Verdicts.{Ruling, rulingOf, numberOf, verdictOf}
 use Rattle.wire.specs.declared.verdicts.Verdict.{Verdict}
 use Rattle.wire.specs.declared.verdicts.Verdict.the-variants.{Accepted, Refused}
 
@@ -25,12 +25,6 @@ ruling-back (Refused number) = refl
 
 pub ruling-apart : (one other : Verdict) → rulingOf one ≡ rulingOf other → one ≡ other
 ruling-apart one other e = sym (ruling-back one) ∙ (ap verdictBy e ∙ ruling-back other)
-
-pub ruled-accepted : {verdict : Verdict} → rulingOf verdict ≡ ruledAccepted → verdict ≡ Accepted
-ruled-accepted {verdict} = ruling-apart verdict Accepted
-
-pub ruled-refused : {verdict : Verdict} {number : ℕ} → rulingOf verdict ≡ ruledRefused number → verdict ≡ Refused number
-ruled-refused {verdict} {number} = ruling-apart verdict (Refused number)
 
 pub accepted-or-refused : (number : ℕ) → Accepted ≡ Refused number → ⊥
 accepted-or-refused number e = let z : _≡_ {A = ℕ} 0 1 = cc in omega arith

@@ -1,5 +1,5 @@
--- Runs of a desk: the accepted lists, the newest first. Theorems about several steps speak of runs; refused lists leave the desk
--- as it is (D-18), so a run has none.
+-- Runs of a desk: the accepted lists, the newest first. Proofs about several steps speak of runs; refused lists leave the desk as it is
+-- (D-18), so a run has none. The pages of `claims` speak of a desk's own calls instead, and claims/proofs ties the two together.
 use Prim.Native.Nat.{ℕ, zero, suc, _<_, _≤_}
 use mathlib.Core.Path.{_≡_}
 use mathlib.Core.Bool.{true, false}
@@ -40,8 +40,8 @@ EndedAgo rest rows (list ∷ earlier) number zero =
     (i : ℕ) × (1 ≤ placeAt before i .order) × (placeAt before i .slot .number ≡ number) × (stands list (placeAt before i .order) ≡ false)
 EndedAgo rest rows (list ∷ earlier) number (suc ago) = EndedAgo rest rows earlier number ago
 
--- P5: of the orders of a list, one is new: order j
-pub record OneNew (places : List Place) (list : List ℕ) (j : ℕ) : Type 0 where
+-- P5: of the orders of a list, one is not live: order j
+pub record OneNotLive (places : List Place) (list : List ℕ) (j : ℕ) : Type 0 where
   pub inlist : j < orderCount list
   pub new : isLive places (orderAt list j .number) ≡ false
   pub others : (k : ℕ) → k < orderCount list → (k ≡ j → ⊥) → isLive places (orderAt list k .number) ≡ true
