@@ -10,8 +10,9 @@ use native.Mathlib.Omega.{arith}
 use borrow.Author.Tests.{eqb-true, eqb-false, ltb-true, ltb-false}
 use Rattle.kit.proofs.Cases.{on, clash, given}
 use Rattle.kit.proofs.Member.{pigeonhole}
-use Rattle.wire.proofs.Answers.{verdict-number}
-use Rattle.wire.specs.declared.verdicts.Verdict.the-variants.{Accepted as passed}
+use Rattle.wire.specs.Verdicts.{ruledAccepted, rulingOf}
+use Rattle.wire.proofs.Answers.{ruling-apart, verdict-number}
+use Rattle.wire.specs.declared.verdicts.Verdict.the-variants.{Accepted as passed, Refused}
 use Rattle.places.specs.Places.{freePlace, placeAt}
 use Rattle.places.proofs.Live.{live-when}
 use Rattle.orders.specs.Orders.{listRefusal}
@@ -157,14 +158,14 @@ step =
       goes-on = λ κs (desk, (list, _)) answer lasts p calls same.
           ap (λ (a : Answer). a .desk) p ∙ (ap (λ (d : Desk). acceptOf eight d (list .now) .desk) same ∙ one-call-more calls (list .now));
       by-calls = λ desk. (made-calls, λ (calls, e). subst Made (sym e) (calls-made calls));
-      steps-so = λ κs (desk, (list, _)) answer lasts p calls. steps-one calls desk (list .now) answer p;
+      steps-so = λ κs (desk, (list, _)) answer lasts p calls same accepts-it. steps-one calls desk (list .now) answer p same (ruling-apart (answer .verdict) passed accepts-it);
       determined = λ calls list one other. alike calls (deskAfter eight calls) list one other (made-sound (calls-made calls) .below);
       eight-tables = λ calls f number ended m i late soon. eight-tables calls f number ended m i late (omega arith);
       few-rest = λ calls numbers different rest-all. omega (arith, few-rest calls numbers different rest-all);
       one-permitted = one-permitted;
       empty = λ κs (desk, (list, _)) answer lasts p m none.
-          subst (λ (a : Answer). (a .verdict ≡ passed) × ((i : ℕ) → placeAt (a .desk .places) i ≡ freePlace)) (sym (p ∙ ap (acceptOf eight desk) none))
-          (promises.empty-accepted m, empties m);
+          subst (λ (a : Answer). (rulingOf (a .verdict) ≡ ruledAccepted) × ((i : ℕ) → placeAt (a .desk .places) i ≡ freePlace)) (sym (p ∙ ap (acceptOf eight desk) none))
+          (ap rulingOf (promises.empty-accepted m), empties m);
       refused = λ κs (desk, (list, _)) answer lasts p number e.
-          ap (λ (a : Answer). a .desk) p ∙ promises.refused-unchanged desk (list .now) number (ap (λ (a : Answer). a .verdict) (sym p) ∙ e);
+          ap (λ (a : Answer). a .desk) p ∙ promises.refused-unchanged desk (list .now) number (ap (λ (a : Answer). a .verdict) (sym p) ∙ ruling-apart (answer .verdict) (Refused number) e);
     }

@@ -7,7 +7,6 @@
 -- above the desk's, and the desk's is at most 11.
 use Prim.Native.Nat.{ℕ, _+_, _-_, _%_, _≤_}
 use mathlib.Core.Path.{_≡_}
-use mathlib.Core.Logic.{_↔_}
 use mathlib.Core.Bool.{true, cond}
 use mathlib.Core.List.{List, [], _∷_}
 use lib.ListN.{replicate}
@@ -19,7 +18,7 @@ use Rattle.telegram.specs.declared.Reading.{Reading}
 use Rattle.telegram.specs.declared.Telegram.{Telegram}
 use Rattle.desk.specs.Desks.{packetOf}
 use Rattle.picture.specs.Pictures.{countOf}
-use Rattle.listener.specs.Listeners.{freshListener, hearOf, markAt}
+use Rattle.listener.specs.Listeners.{freshListener, hearOf}
 use Rattle.listener.specs.Answers.{Told, refusedAs, asRepeat, asHeld, takenAs}
 use Rattle.last_step.specs.declared.Last.{Last}
 use Rattle.last_step.specs.declared.Last.the-variants.{Never, Step}

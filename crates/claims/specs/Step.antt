@@ -24,7 +24,7 @@ use mathlib.Core.Bool.{true}
 use mathlib.Core.List.{List, [], _∷_}
 use lib.ListN.{length, getD}
 use Rattle.wire.specs.Steps.{steps}
-use Rattle.wire.specs.declared.verdicts.Verdict.the-variants.{Accepted, Refused}
+use Rattle.wire.specs.Verdicts.{ruledAccepted, ruledRefused, rulingOf}
 use Rattle.condition.specs.Slots.{slotCount, codedOf, kindOf, settled}
 use Rattle.order_list.specs.Lists.{orderAt, orderCount}
 use Rattle.places.specs.Places.{freePlace, placeAt}
@@ -181,7 +181,7 @@ pub record TheStep : Type 0 where
   -- R-26: a desk that a making and earlier calls gave is one that a fresh desk became by some calls
   pub by-calls : (desk : Desk) → Made desk ↔ ((calls : List (List ℕ)) × (desk ≡ deskAfter eight calls))
   -- "An accepted list makes one step" (D-02)
-  pub steps-so : OfAccept (λ desk list answer. (calls : List (List ℕ)) → desk ≡ deskAfter eight calls → answer .verdict ≡ Accepted
+  pub steps-so : OfAccept (λ desk list answer. (calls : List (List ℕ)) → desk ≡ deskAfter eight calls → rulingOf (answer .verdict) ≡ ruledAccepted
       → OneStep calls desk list (answer .desk))
   -- and what is told of a step leaves nothing of it open: desks of which it is true are alike
   pub determined : (calls : List (List ℕ)) (list : List ℕ) (one other : Desk) → OneStep calls (deskAfter eight calls) list one
@@ -198,6 +198,6 @@ pub record TheStep : Type 0 where
   pub one-permitted : (calls : List (List ℕ))
       → (number : ℕ) × (1 ≤ number) × (number ≤ 255) × ((i : ℕ) → numberIn (deskAfter eight calls) i ≡ number → ⊥) × (NumberRests calls number → ⊥)
   -- "An empty list is accepted and ends everything." (D-17)
-  pub empty : OfAccept (λ desk list answer. Made desk → list ≡ [] → (answer .verdict ≡ Accepted) × ((i : ℕ) → placeAt (answer .desk .places) i ≡ freePlace))
+  pub empty : OfAccept (λ desk list answer. Made desk → list ≡ [] → (rulingOf (answer .verdict) ≡ ruledAccepted) × ((i : ℕ) → placeAt (answer .desk .places) i ≡ freePlace))
   -- "A refused list makes no step and shortens no rest." (D-18)
-  pub refused : OfAccept (λ desk list answer. (number : ℕ) → answer .verdict ≡ Refused number → answer .desk ≡ desk)
+  pub refused : OfAccept (λ desk list answer. (number : ℕ) → rulingOf (answer .verdict) ≡ ruledRefused number → answer .desk ≡ desk)

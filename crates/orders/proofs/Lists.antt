@@ -1,7 +1,7 @@
 -- What an accepted list of orders is.
 use Prim.Native.Nat.{ℕ, _%_, _<_, _≤_}
 use mathlib.Core.Path.{_≡_, refl, sym}
-use mathlib.Core.Bool.{true, false}
+use mathlib.Core.Bool.{true}
 use mathlib.Core.List.{List}
 use lib.Dec.{ltb}
 use lib.ListN.{length}
@@ -9,9 +9,8 @@ use native.Mathlib.Omega.{arith}
 use borrow.Author.Tests.{eqb-true, eqb-false, ltb-true, ltb-false, not-false}
 use Rattle.kit.specs.Ladder.{NoneHolds}
 use Rattle.kit.proofs.Cases.{on, given, and-second}
-use Rattle.condition.specs.Slots.{codedOf, slotCount}
+use Rattle.condition.specs.Slots.{codedOf}
 use Rattle.kit.proofs.Ladder.{silent-each}
-use Rattle.kinds.specs.Words.{isType, secondAllowed}
 use Rattle.order_list.specs.Lists.{orderAt, orderCount, listedAt}
 use Rattle.places.specs.Places.{placeAt, placeOf, isLive}
 use Rattle.orders.specs.Orders.{isRetyped, orderRows, listRows, listRefusal, Fair}
