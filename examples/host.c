@@ -1,6 +1,7 @@
 /*
  * A host in C. It hands a list with one order to a fresh desk, takes the table's five telegrams for a recording, and prints the
- * recording's listing: document 01's example. Then it asks for single packets, and hears telegrams of any length.
+ * recording's listing: document 01's example. Then it asks for single packets, hears telegrams of any length, reads a telegram from the
+ * train and a miss, and knows a word of a listing.
  */
 #include <stdio.h>
 #include <string.h>
@@ -9,6 +10,9 @@
 
 /* Each list stands after its length in two bytes: one order, number 1, type 3, from 1,200 m to 1,500 m. */
 static const uint8_t lists[] = {0, 10, 0, 0, 0, 1, 3, 0, 0x04, 0xB0, 0x05, 0xDC};
+
+/* A call with a telegram that document 01 reckons by hand (P7), after its length, and a call with none. */
+static const uint8_t calls[] = {0, 26, 1, 2, 3, 0x80, 1, 0x7F, 0xFE, 0, 0, 0, 6, 0, 0, 0, 0, 0, 0, 0, 0, 0, 0, 0, 0, 0, 0, 0, 0xFF, 0xFF};
 
 /* A telegram that is too short, and the example's five, each after its length. */
 static size_t frame(const uint8_t *tables, uint8_t *telegrams)
@@ -46,5 +50,12 @@ int main(void)
 
     uint8_t telegrams[6 * 28];
     said = bravolith_hear(telegrams, frame(tables, telegrams), listing, sizeof listing);
-    return fwrite(listing, 1, said, stdout) == said ? 0 : 1;
+    if (fwrite(listing, 1, said, stdout) != said)
+        return 1;
+
+    said = bravolith_signals(calls, sizeof calls, listing, sizeof listing);
+    if (fwrite(listing, 1, said, stdout) != said)
+        return 1;
+
+    return bravolith_word((const uint8_t *)"carried", 7) == BRAVOLITH_CARRIED ? 0 : 1;
 }
