@@ -6,6 +6,7 @@ use mathlib.Core.List.{List}
 use mathlib.Core.Logic.{_↔_}
 use contract.Monad.{fact-mono}
 use lib.ListN.{length}
+use borrow.Author.Tests.{ne-eqb}
 use Rattle.kit.specs.Ladder.{NoneHolds}
 use Rattle.kit.proofs.Cases.{given}
 use Rattle.kit.proofs.Contracts.{agree, both-facts}
@@ -22,6 +23,8 @@ use Rattle.desk.proofs.Promises as desk-promises
 use Rattle.hand.specs.Sets.{begun}
 use Rattle.listener.specs.Listeners.{carries, holding, hearRows}
 use Rattle.listener.specs.Answers.{Hearing, refusedAs}
+use Rattle.listener.specs.Lent.{listenerIn, memoryAfter}
+use Rattle.listener.proofs.Lent.{heard-once}
 use Rattle.listener.proofs.Answers.{hearing-apart}
 use Rattle.listener.proofs.Promises as listener-promises
 use Rattle.signals.specs.Answers.{acceptance, absence, refusalUnder, Updating}
@@ -29,7 +32,7 @@ use Rattle.signals.specs.Signals.{missedBy, updateOf}
 use Rattle.signals.specs.declared.Signals.{Signals}
 use Rattle.signals.proofs.Answers.{noted-apart, updating-apart}
 use Rattle.signals.proofs.Promises as train-promises
-use Rattle.claims.specs.Demand1.{RefusedBy, Lists, Telegrams, TrainTelegrams, TrainTelegramsLent, Buffers, Demand1}
+use Rattle.claims.specs.Demand1.{RefusedBy, Lists, Telegrams, TelegramsLent, TrainTelegrams, TrainTelegramsLent, Buffers, Demand1}
 
 -- what is proved of a verdict is proved of what it tells
 ruled : (rows : List (Bool × ℕ)) (verdict : Verdict) → RefusedBy rows Refused verdict → RefusedBy rows ruledRefused (rulingOf verdict)
@@ -57,6 +60,24 @@ telegrams =
       unchanged = λ κs (listener, (telegram, _)) heard lasts p.
           subst⁻¹ (λ (h : Hearing). (number : ℕ) → (number ≡ 15 → ⊥) → h .told ≡ refusedAs number → h .listener ≡ listener) p
           (listener-promises.others-unchanged carries listener (telegram .now));
+    }
+
+-- but for 15, a refusal leaves every byte
+memory-kept : (number : ℕ) → (number ≡ 15 → ⊥) → (memory telegram : List ℕ) → memoryAfter carries (refusedAs number) memory telegram ≡ memory
+memory-kept number other memory telegram = rw (ne-eqb number 15 other) refl
+
+telegrams-lent : TelegramsLent
+telegrams-lent =
+    record {
+      defined = λ κs handed answer other lasts others p q. given (heard-once p q) (λ (same, bytes). (same, ap (λ b. (b, (tt, tt))) bytes));
+      refused = λ κs (memory, (telegram, _)) answer lasts p.
+          subst⁻¹ (λ (h : Hearing). RefusedBy (hearRows (listenerIn (memory .now)) (telegram .now)) refusedAs (h .told)) (p .meant)
+          (listener-promises.refused-when carries (listenerIn (memory .now)) (telegram .now));
+      dropped = λ κs (memory, (telegram, _)) answer lasts p.
+          subst⁻¹ (λ (h : Hearing). h .told ≡ refusedAs 15 → h .listener ≡ holding (listenerIn (memory .now)) (begun 0)) (p .meant)
+          (listener-promises.fifteen-drops carries (listenerIn (memory .now)) (telegram .now));
+      unchanged = λ κs (memory, (telegram, _)) answer lasts p number other told.
+          p .bytes ∙ (ap (λ t. memoryAfter carries t (memory .now) (telegram .now)) told ∙ memory-kept number other (memory .now) (telegram .now));
     }
 
 -- a call with a telegram, and one with none; the promise of the answer and of the record, whether it is handed over or lent
@@ -116,4 +137,4 @@ buffers =
     }
 
 pub demand1 : Demand1
-demand1 = record { lists = lists; telegrams = telegrams; train = train; train-lent = train-lent; buffers = buffers }
+demand1 = record { lists = lists; telegrams = telegrams; telegrams-lent = telegrams-lent; train = train; train-lent = train-lent; buffers = buffers }

@@ -9,7 +9,9 @@ use Rattle.wire.proofs.Answers.{ruling-apart}
 use Rattle.telegram.proofs.ReadAgain.{read-again}
 use Rattle.telegram.proofs.Refusals.{accepted-written, packet-accepted}
 use Rattle.desk.specs.Desks.{baseRest as eight, packetOf, Made, made-fresh, called}
+use Rattle.listener.specs.Answers.{Hearing}
 use Rattle.listener.specs.Listeners.{carries}
+use Rattle.listener.proofs.Fresh.{zeros-fresh}
 use Rattle.claims.specs.Calls.{deskAfter}
 use Rattle.claims.specs.Hearings.{Item}
 use Rattle.claims.specs.Demand3.{fleetBinding, LostOrRepeated, TheFunctions, Demand3}
@@ -33,6 +35,8 @@ functions =
       writes-five = λ κs (desk, (packet, (buffer, _))) verdict lasts p low high long. ap rulingOf (p .0 ∙ packet-accepted (packetOf desk packet) (buffer .now) low high long);
       fresh-listener = λ κs handed listener lasts p. p;
       hears = λ κs handed heard lasts p. p;
+      fresh-memory = zeros-fresh;
+      hears-lent = λ κs handed answer lasts p. (ap (λ (h : Hearing). h .told) (p .meant), ap (λ (h : Hearing). h .listener) (p .meant));
     }
 
 -- the fleet's bytes are read back

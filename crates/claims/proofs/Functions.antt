@@ -19,6 +19,8 @@ use Rattle.desk.specs.declared.Answer.{Answer}
 use Rattle.desk.specs.declared.Desk.{Desk}
 use Rattle.listener.specs.Listeners.{carries, freshListener, hearOf}
 use Rattle.listener.specs.Answers.{hearingOf}
+use Rattle.listener.specs.Lent.{HeardIn}
+use Rattle.listener.specs.declared.Answer as Vehicle
 use Rattle.listener.specs.declared.Heard.{Heard}
 use Rattle.listener.specs.declared.Listener.{Listener}
 use Rattle.signals.specs.Signals.{freshSignals, updateOf}
@@ -26,7 +28,7 @@ use Rattle.signals.specs.declared.Answer as Train
 use Rattle.signals.specs.declared.Signals.{Signals}
 use Rattle.signals.specs.Answers.{notedOf, updatingOf}
 use Rattle.signals.specs.declared.Updated.{Updated}
-use Rattle.claims.specs.Functions.{OfDistance, OfRead, OfWriteTelegram, OfFreshDesk, OfAccept, OfTable, OfWrite, OfFreshListener, OfFreshSignals, OfHear, OfUpdate, OfUpdateLent}
+use Rattle.claims.specs.Functions.{OfDistance, OfRead, OfWriteTelegram, OfFreshDesk, OfAccept, OfTable, OfWrite, OfFreshListener, OfFreshSignals, OfHear, OfHearIn, OfUpdate, OfUpdateLent}
 
 -- bytes that are lent, wherever they stand
 abbrev lent : List ℕ → RefT (List ℕ)
@@ -100,6 +102,13 @@ pub hear-says : (Such : Listener → List ℕ → Heard → Type 0)
 hear-says Such = (
   λ promised listener telegram heard p. promised ([], tt) (listener, (lent telegram, tt)) heard (tt, (tt, tt)) p,
   λ plain κs (listener, (telegram, _)) heard lasts p. plain listener (telegram .now) heard p,
+)
+
+pub hear-in-says : (Such : List ℕ → List ℕ → Vehicle.Answer → List ℕ → Type 0)
+    → OfHearIn Such ↔ ((memory telegram : List ℕ) (answer : Vehicle.Answer) (after : List ℕ) → HeardIn carries memory telegram answer after → Such memory telegram answer after)
+hear-in-says Such = (
+  λ promised memory telegram answer after p. promised ([], ([], tt)) (lent memory, (lent telegram, tt)) answer (after, (tt, tt)) p,
+  λ plain κs (memory, (telegram, _)) answer (after, _) p. plain (memory .now) (telegram .now) answer after p,
 )
 
 pub update-says : (Such : Signals → Bool → List ℕ → Updated → Type 0)

@@ -22,15 +22,17 @@ use Rattle.wire.specs.Verdicts.{ruledRefused, rulingOf}
 use Rattle.telegram.specs.Telegrams.{readRows, writeRows}
 use Rattle.orders.specs.Orders.{listRows}
 use Rattle.listener.specs.Answers.{refusedAs, toldOf}
+use Rattle.listener.specs.Lent.{listenerIn}
 use Rattle.listener.specs.Listeners.{holding, hearRows}
 use Rattle.train_codes.specs.Refusals.{trainRows}
 use Rattle.desk.proofs.Desk.accept as accept
 use Rattle.desk_writer.proofs.write as write
 use Rattle.telegram_reader.proofs.read as read
 use Rattle.listener.proofs.Listener.hear as hear
+use Rattle.listener.proofs.hear_in as hear-in
 use Rattle.signals.proofs.Signals.update as update
 use Rattle.signals_in_place.proofs.update as update-lent
-use Rattle.claims.specs.Functions.{OfRead, OfAccept, OfWrite, OfHear, OfUpdate, OfUpdateLent}
+use Rattle.claims.specs.Functions.{OfRead, OfAccept, OfWrite, OfHear, OfHearIn, OfUpdate, OfUpdateLent}
 
 -- R-23: a refusal is given when its row holds and nothing earlier does, and never else
 abbrev pub RefusedBy : {Said : Type 0} → List (Bool × ℕ) → (ℕ → Said) → Said → Type 0
@@ -58,6 +60,15 @@ pub record Telegrams : Type 0 where
   -- M-1f, L-10, L-11, R-24: 15 drops the set in hand, and no other refusal changes the listener
   pub dropped : OfHear (λ listener telegram heard. toldOf (heard .answer) ≡ refusedAs 15 → heard .listener ≡ holding listener (begun 0))
   pub unchanged : OfHear (λ listener telegram heard. (number : ℕ) → (number ≡ 15 → ⊥) → toldOf (heard .answer) ≡ refusedAs number → heard .listener ≡ listener)
+
+-- W-04: the same where the listener stands in memory that is lent, `listener::hear_in(memory, telegram)`: `listenerIn` is the listener that
+-- the memory means
+pub record TelegramsLent : Type 0 where
+  pub defined : OneAnswer hear-in.ended hear-in.Reads.Learnt
+  pub refused : OfHearIn (λ memory telegram answer after. RefusedBy (hearRows (listenerIn memory) telegram) refusedAs (toldOf answer))
+  pub dropped : OfHearIn (λ memory telegram answer after. toldOf answer ≡ refusedAs 15 → listenerIn after ≡ holding (listenerIn memory) (begun 0))
+  -- M-1e, R-25: no other refusal changes a byte
+  pub unchanged : OfHearIn (λ memory telegram answer after. (number : ℕ) → (number ≡ 15 → ⊥) → toldOf answer ≡ refusedAs number → after ≡ memory)
 
 -- ---- and those from the train: `Signals::update(signals, present, telegram)`
 
@@ -96,6 +107,7 @@ pub record Buffers : Type 0 where
 pub record Demand1 : Type 2 where
   pub lists : Lists
   pub telegrams : Telegrams
+  pub telegrams-lent : TelegramsLent
   pub train : TrainTelegrams
   pub train-lent : TrainTelegramsLent
   pub buffers : Buffers

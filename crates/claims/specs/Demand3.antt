@@ -15,16 +15,17 @@ use mathlib.Core.Path.{_≡_}
 use mathlib.Core.Logic.{_↔_}
 use mathlib.Core.Bool.{true}
 use mathlib.Core.List.{List, _∷_}
-use lib.ListN.{length}
+use lib.ListN.{length, replicate}
 use Rattle.wire.specs.Verdicts.{ruledAccepted, rulingOf}
 use Rattle.telegram.specs.Telegrams.{bytesOf, readOf}
 use Rattle.desk.specs.Desks.{baseRest as eight, freshWith, acceptOf, packetOf, Made}
-use Rattle.listener.specs.Answers.{hearingOf}
+use Rattle.listener.specs.Answers.{toldOf, hearingOf}
+use Rattle.listener.specs.Lent.{listenerIn}
 use Rattle.listener.specs.Listeners.{carries, freshListener, hearOf, markAt}
 use Rattle.listener.specs.declared.Listener.{Listener}
 use Rattle.claims.specs.Calls.{deskAfter, stepsMade}
 use Rattle.claims.specs.Ends.{Binding, listenerAfter, Premises, pictureOf, lastOf, IsCarriedOn, PutRight, Answered}
-use Rattle.claims.specs.Functions.{OfFreshDesk, OfAccept, OfWrite, OfFreshListener, OfHear}
+use Rattle.claims.specs.Functions.{OfFreshDesk, OfAccept, OfWrite, OfFreshListener, OfHear, OfHearIn}
 use Rattle.claims.specs.Hearings.{Item, wholes}
 use Rattle.claims.specs.Regular.{wholly, Spaced}
 
@@ -105,6 +106,11 @@ pub record TheFunctions : Type 0 where
   pub writes-five : OfWrite (λ desk packet buffer verdict after. 3 ≤ packet → packet ≤ 7 → length buffer ≡ 26 → rulingOf verdict ≡ ruledAccepted)
   pub fresh-listener : OfFreshListener (λ listener. listener ≡ freshListener)
   pub hears : OfHear (λ listener telegram heard. hearingOf heard ≡ hearOf carries listener (fleetBinding .read telegram))
+  -- W-04: and so it is where the listener stands in memory that is lent; 310 zeros are a fresh one's
+  pub fresh-memory : listenerIn (replicate 310 0) ≡ freshListener
+  pub hears-lent : OfHearIn (λ memory telegram answer after.
+      let next = hearOf carries (listenerIn memory) (fleetBinding .read telegram) in
+      (toldOf answer ≡ next .told) × (listenerIn after ≡ next .listener))
 
 -- M-3: of every sequence of lists handed to a fresh desk, and of everything heard so: after each telegram, and for any length of service
 abbrev pub InEveryRun : ((calls : List (List ℕ)) → List (Item (List ℕ)) → Type 0) → Type 0

@@ -29,6 +29,7 @@ use Rattle.telegram.specs.declared.Reading.{Reading}
 use Rattle.telegram.specs.declared.Telegram.{Telegram}
 use Rattle.desk.specs.declared.Answer.{Answer}
 use Rattle.desk.specs.declared.Desk.{Desk}
+use Rattle.listener.specs.declared.Answer as Vehicle
 use Rattle.listener.specs.declared.Heard.{Heard}
 use Rattle.listener.specs.declared.Listener.{Listener}
 use Rattle.signals.specs.declared.Answer as Train
@@ -43,6 +44,7 @@ use Rattle.desk_writer.proofs.write as write
 use Rattle.desk.proofs.Desk.fresh as fresh-desk
 use Rattle.listener.proofs.Listener.fresh as fresh-listener
 use Rattle.listener.proofs.Listener.hear as hear
+use Rattle.listener.proofs.hear_in as hear-in
 use Rattle.signals.proofs.Signals.fresh as fresh-signals
 use Rattle.signals.proofs.Signals.update as update
 use Rattle.signals_in_place.proofs.update as update-lent
@@ -82,6 +84,10 @@ OfFreshListener Such = Promised fresh-listener.ended fresh-listener.Reads.Learnt
 -- `Listener::hear(listener, telegram)`
 abbrev pub OfHear : (Listener → List ℕ → Heard → Type 0) → Type 0
 OfHear Such = Promised hear.ended hear.Reads.Learnt (λ κs (listener, (telegram, _)) heard lasts. Such listener (telegram .now) heard)
+
+-- `listener::hear_in(memory, telegram)`: the 310 bytes before, and after
+abbrev pub OfHearIn : (List ℕ → List ℕ → Vehicle.Answer → List ℕ → Type 0) → Type 0
+OfHearIn Such = Promised hear-in.ended hear-in.Reads.Learnt (λ κs (memory, (telegram, _)) answer (after, _). Such (memory .now) (telegram .now) answer after)
 
 -- `Signals::fresh()`
 abbrev pub OfFreshSignals : (Signals → Type 0) → Type 0
