@@ -51,10 +51,10 @@ pub record Lists : Type 0 where
 -- ---- "telegram": `telegram_reader::read(bytes)`, and `Listener::hear(listener, telegram)`
 
 pub record Telegrams : Type 0 where
-  -- M-1b, M-1d, R-10 to R-14, R-20: reading
+  -- M-1b, M-1d, R-06, R-10 to R-14, R-20: reading
   pub read-defined : OneAnswer read.ended read.Reads.Learnt
   pub read-refused : OfRead (λ bytes reading. RefusedBy (readRows bytes) ruledRefused (rulingOf (reading .verdict)))
-  -- M-1b, M-1d, R-10 to R-15, R-20, R-21: hearing
+  -- M-1b, M-1d, R-06, R-10 to R-15, R-20, R-21: hearing
   pub defined : OneAnswer hear.ended hear.Reads.Learnt
   pub refused : OfHear (λ listener telegram heard. RefusedBy (hearRows listener telegram) refusedAs (toldOf (heard .answer)))
   -- M-1f, L-10, L-11, R-24: 15 drops the set in hand, and no other refusal changes the listener
@@ -66,8 +66,9 @@ pub record Telegrams : Type 0 where
 pub record TelegramsLent : Type 0 where
   pub defined : OneAnswer hear-in.ended hear-in.Reads.Learnt
   pub refused : OfHearIn (λ memory telegram answer after. RefusedBy (hearRows (listenerIn memory) telegram) refusedAs (toldOf answer))
+  -- M-1f, L-10: 15 drops the set in hand
   pub dropped : OfHearIn (λ memory telegram answer after. toldOf answer ≡ refusedAs 15 → listenerIn after ≡ holding (listenerIn memory) (begun 0))
-  -- M-1e, R-25: no other refusal changes a byte
+  -- M-1f, L-11, R-24: no other refusal changes the listener, nor any byte of its memory
   pub unchanged : OfHearIn (λ memory telegram answer after. (number : ℕ) → (number ≡ 15 → ⊥) → toldOf answer ≡ refusedAs number → after ≡ memory)
 
 -- ---- and those from the train: `Signals::update(signals, present, telegram)`

@@ -16,7 +16,8 @@
 -- and `nextNumber`. This page says what comes of it, without any of these: of the desk before the step, the list, and the desk after, by
 -- their slots, numbers and lists alone; of the steps before, by the desk's own calls: its table and its list of each step, and how many
 -- it has made (Calls.antt). Where it is told that what a desk keeps of ended numbers is right, it is read by `isResting`, as the desk reads
--- it. All is said of the contract of `Desk::accept` (Functions.antt). proofs/Step.antt proves it.
+-- it. What one call does is said of the contracts of `Desk::fresh` and `Desk::accept` (Functions.antt); what is told of many steps is said
+-- of the desk of these calls, `deskAfter`, which `fresh` and `goes-on` below tie to those contracts. proofs/Step.antt proves it.
 use Prim.Native.Nat.{ℕ, zero, suc, _+_, _<_, _≤_}
 use mathlib.Core.Path.{_≡_}
 use mathlib.Core.Logic.{_⊎_, _↔_}
@@ -44,7 +45,7 @@ HasSlot desk order i = (1 ≤ order) × (i < slotCount) × (placeAt (desk .place
 abbrev pub Live : Desk → ℕ → Type 0
 Live desk order = (i : ℕ) × HasSlot desk order i
 
--- W-01: the number in slot i; 0 where it is empty
+-- D-07: the number in slot i; 0 where it is empty
 abbrev pub numberIn : Desk → ℕ → ℕ
 numberIn desk i = placeAt (desk .places) i .slot .number
 

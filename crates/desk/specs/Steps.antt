@@ -16,8 +16,8 @@
 --   D-10  255 is followed by 1, 0 is never given: `numberAfter` (numbers/specs/Numbers.antt)
 --   D-11  a fresh desk gives 1 first: `numberAfter` of the last number 0, which `freshWith` (Desks.antt) has
 --   D-12  which numbers are permitted: `isPermitted` (numbers/specs/Numbers.antt), `isResting` (resting/specs/Rests.antt), `endedAmong`
---         (leaving/specs/Leaving.antt); of the lists themselves `NumberRests` (claims/specs/Step.antt)
---   D-13  eight tables in a row go without an ended number: `baseRest` (Desks.antt)
+--         (leaving/specs/Leaving.antt); by the desk's own calls `NumberRests` (claims/specs/Step.antt)
+--   D-13  eight tables in a row go without an ended number: `baseRest` (Desks.antt); as a sentence `eight-tables` (claims/specs/Step.antt)
 --   D-14  at most 160 rest at once: a fresh desk keeps so many entries, `freshDesk` (Desks.antt), and so does every step
 --   D-15  a permitted number always exists: a theorem on `nextNumber` (numbers/proofs/Search.antt); there is no answer that says none
 --   D-16  an order that ends and comes back is new: `seated` (arriving/specs/Arriving.antt), which asks only who is live

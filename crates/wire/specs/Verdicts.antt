@@ -1,5 +1,6 @@
--- The answers of a call that may refuse, in the numbers of document 01 (C-12). All that is promised of a verdict is promised of what
--- `rulingOf` tells of it, which is different for every two verdicts, and which `verdictOf` gives for each number (proofs/Answers.antt).
+-- The answers of a call that may refuse, in the numbers of document 01 (C-12). A contract says which verdict it is by `verdictOf`, the
+-- verdict with a number. The pages speak of a verdict by what `rulingOf` tells of it, which is different for every two verdicts
+-- (`ruling-apart` in proofs/Answers.antt); of the verdict with a number it tells that number (`number-verdict`).
 use Prim.Native.Nat.{ℕ}
 use mathlib.Core.Bool.{Bool, true, false, cond}
 use lib.Dec.{eqb}
