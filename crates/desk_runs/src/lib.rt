@@ -15,7 +15,7 @@ pub struct Ran {
     pub lines: usize,
 }
 
-// The desk after a list, and how far the buffers are filled.
+// The desk after one list or all, and how far the buffers are filled.
 struct Taken {
     desk: Desk,
     ran: Ran,
@@ -56,10 +56,11 @@ fn take(desk: Desk, list: &[u8], lists: u64, tables: &mut [u8], lines: &mut [u8]
 }
 
 // Hands all lists to a fresh desk: the table after each that is accepted, and a line for each that is refused and where the input ends
-// inside a list. What has no room before a buffer's end is dropped.
-pub fn run(input: &[u8], tables: &mut [u8], lines: &mut [u8]) -> Ran
-    ensures { λ r. ⌜ Poured (now (tables .entry)) 0 (runTables (now (input .entry))) (now (tables .exit)) (r .tables)
-        × Poured (now (lines .entry)) 0 (refusedLines (now (input .entry))) (now (lines .exit)) (r .lines) ⌝ }
+// inside a list. What has no room before a buffer's end is dropped. The desk is the one that the lists leave.
+fn hand_over(input: &[u8], tables: &mut [u8], lines: &mut [u8]) -> Taken
+    ensures { λ r. ⌜ (r .desk ≡ deskAtEnd (now (input .entry)))
+        × Poured (now (tables .entry)) 0 (runTables (now (input .entry))) (now (tables .exit)) (r .ran .tables)
+        × Poured (now (lines .entry)) 0 (refusedLines (now (input .entry))) (now (lines .exit)) (r .ran .lines) ⌝ }
 {
     let mut desk = Desk::fresh();
     let mut ran = Ran {
@@ -72,9 +73,12 @@ pub fn run(input: &[u8], tables: &mut [u8], lines: &mut [u8]) -> Ran
         let size = frames::call_size(rest, frames::NO_BARE);
         if size == 0 {
             let past = desk_output::put_short(lines, ran.lines);
-            return Ran {
-                tables: ran.tables,
-                lines: past,
+            return Taken {
+                desk,
+                ran: Ran {
+                    tables: ran.tables,
+                    lines: past,
+                },
             };
         }
         lists += 1;
@@ -83,23 +87,25 @@ pub fn run(input: &[u8], tables: &mut [u8], lines: &mut [u8]) -> Ran
         ran = taken.ran;
         rest = &rest[size..];
     }
-    ran
+    Taken { desk, ran }
+}
+
+// The tables and the lines that come of all lists, into two buffers.
+pub fn run(input: &[u8], tables: &mut [u8], lines: &mut [u8]) -> Ran
+    ensures { λ r. ⌜ Poured (now (tables .entry)) 0 (runTables (now (input .entry))) (now (tables .exit)) (r .tables)
+        × Poured (now (lines .entry)) 0 (refusedLines (now (input .entry))) (now (lines .exit)) (r .lines) ⌝ }
+{
+    let handed = hand_over(input, tables, lines);
+    handed.ran
 }
 
 // The desk that all lists leave, from a fresh one on. A refused list leaves it as it was, and so does an input's tail that is no whole list.
+// What would be written has no room here.
 pub fn desk_after(input: &[u8]) -> Desk
     ensures { λ r. ⌜ r ≡ deskAtEnd (now (input .entry)) ⌝ }
 {
-    let mut desk = Desk::fresh();
-    let mut rest = input;
-    while 0 < rest.len() {
-        let size = frames::call_size(rest, frames::NO_BARE);
-        if size == 0 {
-            return desk;
-        }
-        let answer = desk.accept(&rest[frames::LENGTH..size]);
-        desk = answer.desk;
-        rest = &rest[size..];
-    }
-    desk
+    let mut tables = [0u8; 1];
+    let mut lines = [0u8; 1];
+    let handed = hand_over(input, &mut tables, &mut lines);
+    handed.desk
 }

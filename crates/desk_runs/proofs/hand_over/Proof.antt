@@ -1,5 +1,5 @@
--- `run`: in each buffer, what is poured and what comes of what is left of the input make the whole, turn by turn; the desk stays one that was made,
--- and no more lists are counted than bytes are taken; each turn leaves less.
+-- `hand_over`: in each buffer, what is poured and what comes of what is left of the input make the whole, turn by turn; so does the desk so far,
+-- taken on through what is left; it stays one that was made, and no more lists are counted than bytes are taken; each turn leaves less.
 use Prim.Native.Nat.{ℕ, _+_, _≤_}
 use mathlib.Core.Path.{_≡_, sym, ap, ap₂, _∙_, subst, subst⁻¹}
 use mathlib.Core.List.{List}
@@ -12,10 +12,11 @@ use Rattle.frames.specs.Frames.{noBare}
 use Rattle.frames.proofs.Splitting.{size-bounds}
 use Rattle.frames.proofs.Pouring.{Pouring, pouring-start, pouring-more, pouring-end, pouring-last, pouring-as, pouring-length, pouring-room}
 use Rattle.desk.specs.Desks.{Made, made-fresh, called}
-use Rattle.desk_runs.specs.Runs.{tablesWith, refusedLinesWith, runTables, refusedLines}
+use Rattle.desk_runs.specs.Runs.{listsOf, deskFrom, tablesWith, refusedLinesWith, runTables, refusedLines, deskAtEnd}
+use Rattle.desk_runs.proofs.Left.{left-more, left-none, left-end}
 use Rattle.desk_runs.proofs.Outputs.{tables-more, lines-more, tables-none, lines-short, tables-end, lines-end}
-use Rattle.desk_runs.proofs.run.Statement.{statement}
-use Rattle.desk_runs.proofs.run.Tie as tie
+use Rattle.desk_runs.proofs.hand_over.Statement.{statement}
+use Rattle.desk_runs.proofs.hand_over.Tie as tie
 
 abbrev Inv-loop : tie.InvT-loop
 Inv-loop input tables₀ lines₀ desk₀ ran₀ lists₀ rest₀ tables lines desk ran lists rest =
@@ -23,6 +24,7 @@ Inv-loop input tables₀ lines₀ desk₀ ran₀ lists₀ rest₀ tables lines d
     × (lists + length rest ≤ length input)
     × Pouring tables₀ (runTables input) tables (ran .tables) (tablesWith desk rest)
     × Pouring lines₀ (refusedLines input) lines (ran .lines) (refusedLinesWith desk lists rest)
+    × (deskFrom desk (listsOf rest) ≡ deskAtEnd input)
 
 abbrev μ-loop : tie.MeasureT-loop
 μ-loop input tables₀ lines₀ desk₀ ran₀ lists₀ rest₀ tables lines desk ran lists rest = length rest
@@ -31,7 +33,7 @@ fresh-requires : tie.Need-fresh-requires Inv-loop μ-loop
 fresh-requires c κs = search needs
 
 loop-holds : tie.Need-loop-holds Inv-loop μ-loop
-unfolding runTables refusedLines
+unfolding runTables refusedLines deskAtEnd
 loop-holds c =
     let start = c .before .before .before .before in
     let desk = c .fresh .ensures in
@@ -40,6 +42,7 @@ loop-holds c =
       search needs,
       pouring-as (ap (λ d. tablesWith d input) (sym desk)) pouring-start,
       pouring-as (ap (λ d. refusedLinesWith d 0 input) (sym desk)) pouring-start,
+      ap (λ d. deskFrom d (listsOf input)) desk,
     )
 
 call-size-requires : tie.Need-call-size-requires Inv-loop μ-loop
@@ -59,6 +62,7 @@ returns c =
     let l = c .before .before .before .before .before .before .before .loop in
     let size = c .before .before .before .before .before .call-size in
     let none = c .before .before .before .before .if1 .taken in (
+      sym (left-none (l .desk) (l .rest .now) (size .result) (size .ensures) none) ∙ l .inv .4,
       pouring-last (pouring-as (tables-none (l .desk) (l .lists) (l .rest .now) (size .result) (size .ensures) none) (l .inv .2)),
       pouring-end (pouring-as (lines-short (l .desk) (l .lists) (l .rest .now) (size .result) (size .ensures) none (search needs)) (l .inv .3)) (c .before .before .put-short .ensures),
     )
@@ -107,6 +111,7 @@ loop-again c =
           (pouring-more (pouring-as (tables-more (l .desk) (l .lists) rest (size .result) (size .ensures) some) (l .inv .2)) (taken .ensures .1)),
       pouring-as (ap₂ (λ d r. refusedLinesWith d (l .lists + 1) r) desk left)
           (pouring-more (pouring-as (lines-more (l .desk) (l .lists) rest (size .result) (size .ensures) some) (l .inv .3)) (taken .ensures .2)),
+      ap₂ (λ d r. deskFrom d (listsOf r)) (taken .ensures .0) (part-to-end rest (size .result)) ∙ (sym (left-more (l .desk) rest (size .result) (size .ensures) some) ∙ l .inv .4),
     )
 
 same-length-3 : tie.Need-same-length-3 Inv-loop μ-loop
@@ -119,12 +124,13 @@ returns-2 : tie.Need-returns-2 Inv-loop μ-loop
 returns-2 c =
     let l = c .before .loop in
     let end : length (l .rest .now) ≡ 0 = search needs in (
+      sym (left-end (l .desk) (l .rest .now) end) ∙ l .inv .4,
       pouring-last (pouring-as (tables-end (l .desk) (l .lists) (l .rest .now) end) (l .inv .2)),
       pouring-last (pouring-as (lines-end (l .desk) (l .lists) (l .rest .now) end) (l .inv .3)),
     )
 
-pub run-spec : {M : Type 1} → statement M
-run-spec =
+pub hand-over-spec : {M : Type 1} → statement M
+hand-over-spec =
     tie.close
     (tie.spec
     Inv-loop
