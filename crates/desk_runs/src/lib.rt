@@ -73,13 +73,11 @@ fn hand_over(input: &[u8], tables: &mut [u8], lines: &mut [u8]) -> Taken
         let size = frames::call_size(rest, frames::NO_BARE);
         if size == 0 {
             let past = desk_output::put_short(lines, ran.lines);
-            return Taken {
-                desk,
-                ran: Ran {
-                    tables: ran.tables,
-                    lines: past,
-                },
+            let short = Ran {
+                tables: ran.tables,
+                lines: past,
             };
+            return Taken { desk, ran: short };
         }
         lists += 1;
         let taken = take(desk, &rest[frames::LENGTH..size], lists, tables, lines, ran);
