@@ -1,6 +1,6 @@
 -- Demand 3 is proved: the page specs/Demand3.antt is what proofs/Ends.antt proves over any figures and binding, taken with the fleet's.
 use mathlib.Core.Path.{sym, ap, _∙_}
-use mathlib.Core.List.{List, [], _∷_}
+use mathlib.Core.List.{List}
 use Prim.Native.Nat.{ℕ}
 use native.Mathlib.Omega.{arith}
 use Rattle.wire.specs.Verdicts.{rulingOf}
@@ -8,21 +8,15 @@ use Rattle.wire.specs.declared.verdicts.Verdict.the-variants.{Accepted}
 use Rattle.wire.proofs.Answers.{ruling-apart}
 use Rattle.telegram.proofs.ReadAgain.{read-again}
 use Rattle.telegram.proofs.Refusals.{accepted-written, packet-accepted}
-use Rattle.desk.specs.Desks.{baseRest as eight, packetOf, Made, made-fresh, called}
+use Rattle.desk.specs.Desks.{baseRest as eight, packetOf}
 use Rattle.listener.specs.Answers.{Hearing}
 use Rattle.listener.specs.Listeners.{carries}
 use Rattle.listener.proofs.Fresh.{zeros-fresh}
-use Rattle.claims.specs.Calls.{deskAfter}
 use Rattle.claims.specs.Hearings.{Item}
 use Rattle.claims.specs.Demand3.{fleetBinding, LostOrRepeated, TheFunctions, Demand3}
 use Rattle.claims.proofs.Ends.{ReadsBack, Claim, claimed}
+use Rattle.claims.proofs.History.{calls-made}
 use Rattle.claims.proofs.Regular.{regular}
-
--- a desk of any calls was made by them
-calls-made : (calls : List (List ℕ)) → Made (deskAfter eight calls)
-unfolding deskAfter
-calls-made [] = made-fresh
-calls-made (list ∷ calls) = called (calls-made calls) list
 
 functions : TheFunctions
 unfolding packetOf

@@ -21,7 +21,7 @@ use Rattle.order_list.specs.Lists.{stands, orderCount, listedAt}
 use Rattle.order_list.proofs.Listed.{listed-there, listed-when}
 use Rattle.places.specs.Places.{placeAt}
 use Rattle.orders.specs.Orders.{listRefusal}
-use Rattle.desk.specs.Desks.{acceptOf}
+use Rattle.desk.specs.Desks.{baseRest, acceptOf, Made, made-fresh, called}
 use Rattle.desk.proofs.Runs.{deskRun, AllAccepted, Stood, InNewest}
 use Rattle.desk.specs.Steps.{stepOf}
 use Rattle.desk.specs.declared.Desk.{Desk}
@@ -34,6 +34,12 @@ use Rattle.picture.specs.Pictures.{clashes}
 use Rattle.picture.proofs.Clashing.{no-clash}
 use Rattle.marks.proofs.Carrying.{InPicture}
 use Rattle.claims.specs.Calls.{Present, deskAfter, accepted, stepsMade, upTo, deskOf, tableIn, orderIn, StoodIn, StoodFrom}
+
+-- R-26: a desk of any calls was made by them
+pub calls-made : (calls : List (List ℕ)) → Made (deskAfter baseRest calls)
+unfolding deskAfter
+calls-made [] = made-fresh
+calls-made (list ∷ calls) = called (calls-made calls) list
 
 -- ---- present in a list, and the search that the definitions make
 

@@ -33,7 +33,7 @@ use Rattle.desk.proofs.Tracing.{fresh-at, older}
 use Rattle.claims.specs.Calls.{deskAfter, accepted, stepsMade, upTo, deskOf}
 use Rattle.claims.specs.Step.{numberIn, EndedIn, NumberRests, OneStep, TheStep}
 use Rattle.claims.proofs.Ended.{ending-of, ended-then, rests-kept}
-use Rattle.claims.proofs.History.{desk-run}
+use Rattle.claims.proofs.History.{calls-made, desk-run}
 use Rattle.claims.proofs.StepDetermined.{alike}
 use Rattle.claims.proofs.OneStep.{fresh-says, one-step}
 
@@ -42,11 +42,6 @@ made-calls : {desk : Desk} → Made desk → (calls : List (List ℕ)) × (desk 
 unfolding deskAfter
 made-calls Made.made-fresh = ([], refl)
 made-calls (called {desk} m list) = given (made-calls m) (λ (calls, e). (list ∷ calls, ap (λ (d : Desk). acceptOf eight d list .desk) e))
-
-calls-made : (calls : List (List ℕ)) → Made (deskAfter eight calls)
-unfolding deskAfter
-calls-made [] = Made.made-fresh
-calls-made (list ∷ calls) = called (calls-made calls) list
 
 fresh-after : freshWith eight ≡ deskAfter eight []
 unfolding deskAfter

@@ -1,6 +1,6 @@
 -- One answer of the listener and of the memory that it works in: each contract admits one (C-04).
 use mathlib.Core.Path.{refl, ap}
-use Rattle.kit.proofs.Cases.{given}
+use Rattle.claims.proofs.Demand1.{demand1}
 use Rattle.kit.specs.Contracts.{OneAnswer}
 use Rattle.kit.proofs.Contracts.{agree}
 use Rattle.memory.proofs as memory
@@ -10,7 +10,6 @@ use Rattle.picture.proofs as picture
 use Rattle.marks.proofs as marks
 use Rattle.listener.proofs as listener
 use Rattle.listener.proofs.Answers.{hearing-apart}
-use Rattle.listener.proofs.Lent.{heard-once}
 
 -- ---- memory
 
@@ -112,4 +111,4 @@ pub listener-listener-in : OneAnswer listener.listener_in.ended listener.listene
 listener-listener-in κs handed answer other lasts others p q = (agree p q, refl)
 
 pub listener-hear-in : OneAnswer listener.hear_in.ended listener.hear_in.Reads.Learnt
-listener-hear-in κs handed answer other lasts others p q = given (heard-once p q) (λ (same, bytes). (same, ap (λ b. (b, (tt, tt))) bytes))
+listener-hear-in = demand1 .telegrams-lent .defined
