@@ -1,24 +1,13 @@
 -- The fixed byte strings of a listing, compared: which of them a text is (F-08, A-37).
 use Prim.Native.Nat.{ℕ}
-use mathlib.Core.Bool.{Bool, not, _&&_}
 use mathlib.Core.List.{List, [], _∷_}
-use lib.Dec.{eqb}
-use lib.ListN.{length, getD}
 use Rattle.kit.specs.Ladder.{ladder}
-use Rattle.kit.specs.Loops.{any}
+use Rattle.same_text.specs.Same.{isSameText}
 use Rattle.text.specs.Words.{refusedWord}
 use Rattle.listing_words.specs.Words.{newWord, carriedWord}
 use Rattle.listing_lines.specs.Lines.{headerLine}
 use Rattle.listing_reader.specs.declared.Word.{Word}
 use Rattle.listing_reader.specs.declared.Word.the-variants.{Header, New, Carried, Refused, Other}
-
--- byte i is not the same in both
-abbrev pub differsAt : List ℕ → List ℕ → ℕ → Bool
-differsAt text words i = not (eqb (getD text i 0) (getD words i 0))
-
--- as many bytes, and each the same
-unfoldable pub isSameText : List ℕ → List ℕ → Bool
-isSameText text words = eqb (length text) (length words) && not (any (differsAt text words) 0 (length words))
 
 -- F-08: the header, `new`, `carried`, `refused` with its blank, or none of them
 unfoldable pub wordOf : List ℕ → Word

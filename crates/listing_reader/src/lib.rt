@@ -4,9 +4,7 @@ use listing_lines::REFUSED;
 use listing_words::CARRIED;
 use listing_words::NEW;
 ghost use mathlib.Core.Path.{_≡_};
-ghost use lib.ListN.{length};
-ghost use Rattle.kit.specs.Loops.{any};
-ghost use Rattle.listing_reader.specs.Fixed.{differsAt, isSameText, wordOf, codeOf};
+ghost use Rattle.listing_reader.specs.Fixed.{wordOf, codeOf};
 
 // Which of the fixed byte strings a text is.
 pub enum Word {
@@ -17,44 +15,20 @@ pub enum Word {
     Other,
 }
 
-// Whether two texts of one length differ.
-fn differs(text: &[u8], words: &[u8]) -> bool
-    requires { ⌜ length (now text) ≡ length (now words) ⌝ }
-    ensures { λ r. ⌜ r ≡ any (differsAt (now (text .entry)) (now (words .entry))) 0 (length (now (words .entry))) ⌝ }
-{
-    let mut i: usize = 0;
-    while i < words.len() {
-        if text[i] != words[i] {
-            return true;
-        }
-        i += 1;
-    }
-    false
-}
-
-fn same(text: &[u8], words: &[u8]) -> bool
-    ensures { λ r. ⌜ r ≡ isSameText (now (text .entry)) (now (words .entry)) ⌝ }
-{
-    if text.len() != words.len() {
-        return false;
-    }
-    !differs(text, words)
-}
-
 // The header with its line feed, `new`, `carried`, `refused` with its blank, or none of them.
 pub fn word_of(text: &[u8]) -> Word
     ensures { λ r. ⌜ r ≡ wordOf (now (text .entry)) ⌝ }
 {
-    if same(text, &HEADER) {
+    if same_text::is_same(text, &HEADER) {
         return Word::Header;
     }
-    if same(text, &NEW) {
+    if same_text::is_same(text, &NEW) {
         return Word::New;
     }
-    if same(text, &CARRIED) {
+    if same_text::is_same(text, &CARRIED) {
         return Word::Carried;
     }
-    if same(text, &REFUSED) {
+    if same_text::is_same(text, &REFUSED) {
         return Word::Refused;
     }
     Word::Other

@@ -1,10 +1,10 @@
--- `same`: texts of two lengths differ; of one length, where a byte does.
+-- `is_same`: texts of two lengths differ; of one length, where a byte does.
 use mathlib.Core.Path.{sym}
 use borrow.Author.Tests.{eq-eqb, ne-eqb}
-use Rattle.listing_reader.specs.Fixed.{isSameText}
+use Rattle.same_text.specs.Same.{isSameText}
 use borrow.Author.Needs.{needs}
-use Rattle.listing_reader.proofs.same.Statement.{statement}
-use Rattle.listing_reader.proofs.same.Tie as tie
+use Rattle.same_text.proofs.is_same.Statement.{statement}
+use Rattle.same_text.proofs.is_same.Tie as tie
 
 returns : tie.Need-returns
 unfolding isSameText
@@ -17,5 +17,5 @@ returns-2 : tie.Need-returns-2
 unfolding isSameText
 returns-2 c = simp (eq-eqb _ _ (c .before .if1 .left), sym (c .differs .ensures))
 
-pub same-spec : {M : Type 1} → statement M
-same-spec = tie.close (tie.spec returns differs-requires returns-2)
+pub is-same-spec : {M : Type 1} → statement M
+is-same-spec = tie.close (tie.spec returns differs-requires returns-2)

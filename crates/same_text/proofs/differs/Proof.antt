@@ -8,9 +8,9 @@ use borrow.Author.Needs.{needs}
 use borrow.Author.Tests.{eq-eqb, ne-eqb}
 use Rattle.kit.specs.Loops.{any}
 use Rattle.kit.proofs.Loops.{scan-go, scan-hit, scan-end}
-use Rattle.listing_reader.specs.Fixed.{differsAt}
-use Rattle.listing_reader.proofs.differs.Statement.{statement}
-use Rattle.listing_reader.proofs.differs.Tie as tie
+use Rattle.same_text.specs.Same.{differsAt}
+use Rattle.same_text.proofs.differs.Statement.{statement}
+use Rattle.same_text.proofs.differs.Tie as tie
 
 abbrev Inv-loop : tie.InvT-loop
 Inv-loop text words i₀ i = (i ≤ length words) × (any (differsAt text words) 0 (length words) ≡ any (differsAt text words) i (length words - i))

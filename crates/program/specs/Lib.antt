@@ -1,0 +1,8 @@
+pub mod Answers
+pub mod Arguments
+pub mod Failures
+pub mod Help
+pub mod Names
+pub mod Outcomes
+pub mod Progress
+pub mod Version

@@ -1,0 +1,29 @@
+-- What a read or a write came to, and what follows.
+use Prim.Native.Nat.{ℕ}
+use mathlib.Core.Bool.{Bool, true, false, cond}
+use mathlib.Core.List.{List, []}
+use lib.Dec.{ltb}
+use Rattle.program.specs.declared.outcomes.State.{State}
+use Rattle.program.specs.declared.outcomes.State.the-variants.{More, Again, Ended, Failed}
+
+-- a read: some bytes came; or it failed, and is made again where a signal came before a byte; or there are no more
+abbrev pub readOf : ℕ → Bool → Bool → State
+readOf count failed interrupted = cond (ltb 0 count) More (cond failed (cond interrupted Again Failed) Ended)
+
+-- a write of some bytes: some were taken; or a signal came before; or it failed, as one that takes nothing
+abbrev pub writeOf : ℕ → Bool → Bool → State
+writeOf count failed interrupted = cond (ltb 0 count) More (cond failed (cond interrupted Again Failed) Failed)
+
+-- nothing more is read
+abbrev pub isOver : State → Bool
+isOver More = false
+isOver Again = false
+isOver Ended = true
+isOver Failed = true
+
+-- what stands at the end is written where the input has ended, and nothing of it after a read that failed
+abbrev pub atTheEnd : State → List ℕ → List ℕ
+atTheEnd More text = []
+atTheEnd Again text = []
+atTheEnd Ended text = text
+atTheEnd Failed text = []

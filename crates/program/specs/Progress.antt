@@ -1,0 +1,39 @@
+-- How far a reading is.
+use Prim.Native.Nat.{ℕ, _+_, _%_, min}
+use Prim.Native.Char.{code}
+use mathlib.Core.Bool.{Bool, _&&_}
+use mathlib.Core.List.{List, _∷_, _++_}
+use lib.Dec.{eqb}
+use Rattle.kit.specs.Text.{ascii}
+use Rattle.text.specs.Decimals.{decimal}
+use Rattle.program.specs.declared.progress.Progress.{Progress}
+
+-- a count of bytes stays at the greatest number that it can hold
+abbrev pub mostCounted : ℕ
+mostCounted = 0xFFFFFFFFFFFFFFFF
+
+-- the line is written at every so many reads
+abbrev pub readsBetween : ℕ
+readsBetween = 128
+
+-- before any read
+abbrev pub progressOf : Bool → ℕ → Progress
+progressOf shown size = record { shown = shown; size = size; done = 0; reads = 0 }
+
+-- after a read of so many bytes
+abbrev pub advancedBy : Progress → ℕ → Progress
+advancedBy progress count =
+    record {
+      shown = progress .shown;
+      size = progress .size;
+      done = min (progress .done + count) mostCounted;
+      reads = (progress .reads % readsBetween + 1) % readsBetween;
+    }
+
+-- the line is written now
+abbrev pub isDue : Progress → Bool
+isDue progress = progress .shown && eqb (progress .reads) 0
+
+-- the line, in the place of the one before it
+unfoldable pub progressLine : Progress → List ℕ
+progressLine progress = code "\r" ∷ (decimal (progress .done) ++ (ascii " of " ++ (decimal (progress .size) ++ ascii " bytes")))

@@ -1,0 +1,61 @@
+// What a read or a write came to, and what follows. The system answers how many bytes it moved, or that the call failed, and then whether
+// that was because a signal came before a byte was moved.
+ghost use mathlib.Core.Path.{_≡_};
+ghost use Rattle.program.specs.Outcomes.{readOf, writeOf, isOver};
+
+// Go on; do it again; the input has ended; it failed.
+pub enum State {
+    More,
+    Again,
+    Ended,
+    Failed,
+}
+
+// How many bytes were moved, and what follows.
+pub struct Outcome {
+    pub count: usize,
+    pub state: State,
+}
+
+// What follows a read that moved so many bytes.
+pub fn read_of(count: usize, failed: bool, interrupted: bool) -> State
+    ensures { λ r. ⌜ r ≡ readOf count failed interrupted ⌝ }
+{
+    if 0 < count {
+        return State::More;
+    }
+    if failed {
+        if interrupted {
+            return State::Again;
+        }
+        return State::Failed;
+    }
+    State::Ended
+}
+
+// What follows a write of at least one byte. One that takes nothing has failed.
+pub fn write_of(count: usize, failed: bool, interrupted: bool) -> State
+    ensures { λ r. ⌜ r ≡ writeOf count failed interrupted ⌝ }
+{
+    if 0 < count {
+        return State::More;
+    }
+    if failed {
+        if interrupted {
+            return State::Again;
+        }
+    }
+    State::Failed
+}
+
+// Whether nothing more is read.
+pub fn is_over(state: State) -> bool
+    ensures { λ r. ⌜ r ≡ isOver state ⌝ }
+{
+    match state {
+        State::More => false,
+        State::Again => false,
+        State::Ended => true,
+        State::Failed => true,
+    }
+}
