@@ -14,6 +14,20 @@ readOf count failed interrupted = cond (ltb 0 count) More (cond failed (cond int
 abbrev pub writeOf : ℕ → Bool → Bool → State
 writeOf count failed interrupted = cond (ltb 0 count) More (cond failed (cond interrupted Again Failed) Failed)
 
+-- the call is made again
+abbrev pub isAgain : State → Bool
+isAgain More = false
+isAgain Again = true
+isAgain Ended = false
+isAgain Failed = false
+
+-- it is told, and ends the program
+abbrev pub isFailed : State → Bool
+isFailed More = false
+isFailed Again = false
+isFailed Ended = false
+isFailed Failed = true
+
 -- nothing more is read
 abbrev pub isOver : State → Bool
 isOver More = false

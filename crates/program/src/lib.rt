@@ -21,6 +21,8 @@ pub use failures::put_doing;
 pub use names::Program;
 pub use outcomes::Outcome;
 pub use outcomes::State;
+pub use outcomes::is_again;
+pub use outcomes::is_failed;
 pub use outcomes::is_over;
 pub use outcomes::read_of;
 pub use outcomes::write_of;

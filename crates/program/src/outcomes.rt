@@ -1,7 +1,7 @@
 // What a read or a write came to, and what follows. The system answers how many bytes it moved, or that the call failed, and then whether
 // that was because a signal came before a byte was moved.
 ghost use mathlib.Core.Path.{_≡_};
-ghost use Rattle.program.specs.Outcomes.{readOf, writeOf, isOver};
+ghost use Rattle.program.specs.Outcomes.{readOf, writeOf, isAgain, isOver, isFailed};
 
 // Go on; do it again; the input has ended; it failed.
 pub enum State {
@@ -46,6 +46,30 @@ pub fn write_of(count: usize, failed: bool, interrupted: bool) -> State
         }
     }
     State::Failed
+}
+
+// Whether the call is made again.
+pub fn is_again(state: State) -> bool
+    ensures { λ r. ⌜ r ≡ isAgain state ⌝ }
+{
+    match state {
+        State::More => false,
+        State::Again => true,
+        State::Ended => false,
+        State::Failed => false,
+    }
+}
+
+// Whether it is told, and ends the program.
+pub fn is_failed(state: State) -> bool
+    ensures { λ r. ⌜ r ≡ isFailed state ⌝ }
+{
+    match state {
+        State::More => false,
+        State::Again => false,
+        State::Ended => false,
+        State::Failed => true,
+    }
 }
 
 // Whether nothing more is read.
