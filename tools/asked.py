@@ -51,7 +51,10 @@ def understood(usage, words):
 def asked(path, words):
     """What a tool was asked, by the names of its usage line. Help is given here, and words that are not understood are told here."""
     text = help_of(path)
-    found = understood(re.search(r"^Usage: \S+(.*)", text, re.M)[1], words)
+    usage = re.search(r"^Usage: \S+(.*)", text, re.M)
+    if not usage:
+        tell("it is a part of the tools, and not run by itself", 2)
+    found = understood(usage[1], words)
     if isinstance(found, str):
         tell(f"{found} (--help says more)", 2)
     if "--help" in found:
@@ -73,6 +76,8 @@ def tell(text, status=1):
 
 def words():
     """The words that the tool was called with, by their names in its usage line: True for an option, a list for what has `..`."""
+    if sys.stdout is None:
+        tell("standard output is closed")
     sys.excepthook = told
     atexit.register(written)
     return asked(sys.argv[0], sys.argv[1:])
@@ -112,5 +117,6 @@ def written():
 # ---- for the tools in bash: asked.py TOOL WORD.. prints the help where it is asked for, and nothing where the words are understood
 
 if __name__ == "__main__":
-    name = os.path.relpath(os.path.abspath(sys.argv[1]), ROOT)
-    asked(sys.argv[1], sys.argv[2:])
+    tool = sys.argv[1] if len(sys.argv) > 1 else __file__
+    name = os.path.relpath(os.path.abspath(tool), ROOT)
+    asked(tool, sys.argv[2:])
