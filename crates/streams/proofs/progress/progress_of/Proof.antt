@@ -5,7 +5,8 @@ use lib.IntN.{ℤ, pos, negsuc}
 use lib.Dec.{T}
 use lib.Signed.{nonNeg, ltZ}
 use mir.Syntax.{w64}
-use mir.Val.{toZ, ofZ}
+use mir.Val.{toZ, ofZ, SFits}
+use mir.Facts.{fits-natAbs}
 use borrow.Author.Needs.{needs}
 use Rattle.streams.proofs.progress.progress_of.Statement.{statement}
 use Rattle.streams.proofs.progress.progress_of.Tie as tie
@@ -51,10 +52,16 @@ returns-4 : tie.Need-returns-4
 returns-4 c = search needs
 
 cast-between : tie.Need-cast-between
-cast-between c = not-below (toZ w64 (ofZ w64 (c .before .before .before .before .before .before .lseek .result))) (c .before .before .before .before .before .if3 .left)
+cast-between c =
+    let position = toZ w64 (ofZ w64 (c .before .before .before .before .before .before .lseek .result)) in
+    let sound : SFits w64 position = search needs in
+    (not-below position (c .before .before .before .before .before .if3 .left), fits-natAbs tt sound)
 
 cast-between-2 : tie.Need-cast-between-2
-cast-between-2 c = not-below (toZ w64 (ofZ w64 (c .before .before .before .lseek2 .result))) (c .if4 .left)
+cast-between-2 c =
+    let position = toZ w64 (ofZ w64 (c .before .before .before .lseek2 .result)) in
+    let sound : SFits w64 position = search needs in
+    (not-below position (c .if4 .left), fits-natAbs tt sound)
 
 between-requires : tie.Need-between-requires
 between-requires c κs = search needs
