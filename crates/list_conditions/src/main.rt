@@ -1,54 +1,79 @@
-// Reads a recording of telegrams from standard input, one after another, and writes its listing to standard output. It is read in
-// pieces, so that a recording may have any length.
-use libc::STDIN_FILENO;
+// Reads a recording of telegrams, one after another, and writes its listing to standard output. It is read in pieces, each what one read
+// gave, so that a recording may have any length and a table is shown when its last telegram has come.
 use libc::STDOUT_FILENO;
 use lister::Listed;
 use lister::Lister;
+use program::Asked;
+use program::Program;
+use program::Progress;
+use program::State;
+use streams::Source;
 ghost use mathlib.Core.Path.{_≡_};
 ghost use Prim.Native.Nat.{_≤_};
-ghost use lib.Dec.{ltb};
 ghost use lib.ListN.{length};
-ghost use Rattle.io.specs.Counts.{Counts};
 ghost use Rattle.kit.specs.Put.{Put, Poured};
+ghost use Rattle.program.specs.Ends.{atTheEnd};
 ghost use Rattle.lister.specs.Pieces.{takeOf, pieceLines, MadeByPieces};
 ghost use Rattle.listing_lines.specs.Lines.{headerLine};
 ghost use Rattle.listing.specs.Listings.{endOf};
 ghost use Rattle.listing_room.specs.Rooms.{pieceRoom, linesRoom, headerRoom, endRoom};
 
-// How many bytes a piece has, but for the last: four hundred telegrams.
-const PIECE: usize = 10400;
+// The state after a piece, and whether its lines were written.
+struct Shown {
+    lister: Lister,
+    written: bool,
+}
 
 fn main() {
+    let asked = streams::asked(Program::ListConditions);
+    let task = asked.task;
+    if program::is_work(task) {
+        work(asked);
+    } else {
+        streams::answer(Program::ListConditions, asked);
+    }
+}
+
+// Opens the input and lists it.
+fn work(asked: Asked) {
+    let mut name = [0u8; 4096];
+    let source = streams::open(Program::ListConditions, asked, &mut name);
+    if source.descriptor < 0 {
+        return;
+    }
+    streams::say_awaiting(Program::ListConditions, source);
+    let progress = streams::progress_of(asked, source);
+    list(source, &name[..source.length], progress);
+}
+
+// Lists the input to its end, or to the first read or write that fails.
+fn list(source: Source, name: &[u8], begun: Progress) {
+    if !show_header() {
+        return;
+    }
     let mut lister = Lister::begun();
-    show_header();
+    let mut progress = begun;
     // one buffer for the lines of every piece, so that it is cleared once
     let mut out = [0u8; 262080];
     let mut pieces: u64 = 0;
     while pieces < u64::MAX {
         pieces += 1;
         let mut piece = [0u8; 10400];
-        let n = read_piece(&mut piece);
-        lister = show_piece(lister, &piece[..n], &mut out);
-        if is_last(n) {
-            show_end(lister);
+        let outcome = streams::read(Program::ListConditions, source, name, &mut piece);
+        let n = outcome.count;
+        let state = outcome.state;
+        progress = streams::went_on(progress, n);
+        let shown = show_piece(lister, &piece[..n], &mut out);
+        lister = shown.lister;
+        if !shown.written {
+            return;
+        }
+        if program::is_over(state) {
+            streams::end_progress(progress);
+            show_end(state, lister);
             return;
         }
     }
-}
-
-// Reads the next piece into a buffer of a piece's size (listing_room/specs/Rooms.antt): as many bytes as there are, up to that.
-fn read_piece(piece: &mut [u8]) -> usize
-    requires { ⌜ length (now piece) ≡ pieceRoom ⌝ }
-    ensures { λ r. ⌜ Counts r (now (piece .exit)) ⌝ }
-{
-    io::read_full(STDIN_FILENO, piece)
-}
-
-// Whether a piece of so many bytes is the last: the input ended before the buffer was full.
-fn is_last(size: usize) -> bool
-    ensures { λ r. ⌜ r ≡ ltb size pieceRoom ⌝ }
-{
-    size < PIECE
 }
 
 // Puts the header, all of it: the buffer has the size for which that is proved (listing_room/specs/Rooms.antt).
@@ -59,11 +84,11 @@ fn put_header(out: &mut [u8]) -> usize
     listing_lines::put_header(out, 0)
 }
 
-// Writes the header.
-fn show_header() {
+// Writes the header, and answers whether it was written.
+fn show_header() -> bool {
     let mut out = [0u8; 16];
     let n = put_header(&mut out);
-    io::write_all(STDOUT_FILENO, &out[..n]);
+    streams::write(Program::ListConditions, STDOUT_FILENO, &out[..n])
 }
 
 // Puts the lines of one piece. It asks for the sizes for which it is proved that all of them have room (listing_room/proofs/Room.antt).
@@ -75,30 +100,39 @@ fn put_piece(lister: Lister, piece: &[u8], out: &mut [u8]) -> Listed
 }
 
 // Writes the lines of one piece.
-fn show_piece(lister: Lister, piece: &[u8], out: &mut [u8]) -> Lister
+fn show_piece(lister: Lister, piece: &[u8], out: &mut [u8]) -> Shown
     requires { ⌜ MadeByPieces lister × (length (now piece) ≤ pieceRoom) × (length (now out) ≡ linesRoom) ⌝ }
-    ensures { λ r. ⌜ r ≡ takeOf lister (now (piece .entry)) ⌝ }
+    ensures { λ r. ⌜ r .lister ≡ takeOf lister (now (piece .entry)) ⌝ }
 {
     let listed = put_piece(lister, piece, out);
     let n = listed.at;
-    io::write_all(STDOUT_FILENO, &out[..n]);
+    let written = streams::write(Program::ListConditions, STDOUT_FILENO, &out[..n]);
     let next = listed.lister;
-    next
+    Shown {
+        lister: next,
+        written,
+    }
 }
 
-// Puts the line of a short tail and the last line, all of both: the buffer has the size for which that is proved.
-fn put_end(lister: Lister, out: &mut [u8]) -> usize
+// Puts what stands at the end: where the input has ended, the line of a short tail and the last line, all of both, since the buffer has the
+// size for which that is proved; after a read that failed, nothing.
+fn put_end(state: State, lister: Lister, out: &mut [u8]) -> usize
     requires { ⌜ MadeByPieces lister × (length (now out) ≡ endRoom) ⌝ }
-    ensures { λ r. ⌜ Put (now (out .entry)) 0 (endOf lister) (now (out .exit)) r ⌝ }
+    ensures { λ r. ⌜ Put (now (out .entry)) 0 (atTheEnd state (endOf lister)) (now (out .exit)) r ⌝ }
 {
-    listing::finish(lister, out, 0)
+    match state {
+        State::More => 0,
+        State::Again => 0,
+        State::Ended => listing::finish(lister, out, 0),
+        State::Failed => 0,
+    }
 }
 
-// Writes them.
-fn show_end(lister: Lister)
+// Writes it, and answers whether it was written.
+fn show_end(state: State, lister: Lister) -> bool
     requires { ⌜ MadeByPieces lister ⌝ }
 {
     let mut out = [0u8; 64];
-    let n = put_end(lister, &mut out);
-    io::write_all(STDOUT_FILENO, &out[..n]);
+    let n = put_end(state, lister, &mut out);
+    streams::write(Program::ListConditions, STDOUT_FILENO, &out[..n])
 }

@@ -1,7 +1,6 @@
 -- What a read or a write came to, and what follows.
 use Prim.Native.Nat.{ℕ}
 use mathlib.Core.Bool.{Bool, true, false, cond}
-use mathlib.Core.List.{List, []}
 use lib.Dec.{ltb}
 use Rattle.program.specs.declared.outcomes.State.{State}
 use Rattle.program.specs.declared.outcomes.State.the-variants.{More, Again, Ended, Failed}
@@ -34,10 +33,3 @@ isOver More = false
 isOver Again = false
 isOver Ended = true
 isOver Failed = true
-
--- what stands at the end is written where the input has ended, and nothing of it after a read that failed
-abbrev pub atTheEnd : State → List ℕ → List ℕ
-atTheEnd More text = []
-atTheEnd Again text = []
-atTheEnd Ended text = text
-atTheEnd Failed text = []

@@ -2,6 +2,7 @@
 // or a write came to, and each line that a program says of itself.
 mod answers;
 mod arguments;
+mod ends;
 mod failures;
 mod help;
 mod names;
@@ -16,6 +17,8 @@ pub use arguments::Asked;
 pub use arguments::Task;
 pub use arguments::argument_of;
 pub use arguments::is_work;
+pub use ends::End;
+pub use ends::end_of;
 pub use failures::Doing;
 pub use failures::put_doing;
 pub use names::Program;

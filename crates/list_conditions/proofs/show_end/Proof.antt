@@ -1,25 +1,32 @@
--- `show_end`: the end has room, so that the place past it counts bytes of the buffer.
-use native.Mathlib.Omega.{arith}
-use Rattle.listing_room.proofs.Room.{put-counts, end-room}
 use borrow.Author.Needs.{needs}
 use Rattle.list_conditions.proofs.show_end.Statement.{statement}
 use Rattle.list_conditions.proofs.show_end.Tie as tie
+use Rattle.list_conditions.proofs.show_end.Reads as reads
+use Rattle.list_conditions.proofs.show_end.Lts as lts
+use Rattle.list_conditions.proofs.put_end.Reads as put-end-reads
+use Rattle.streams.proofs.write.Reads as write-reads
 
+-- src/main.rt:136:36
 slice-aggregate-put-end : tie.Need-slice-aggregate-put-end
 slice-aggregate-put-end c = search needs
 
+-- src/main.rt:136:9
 put-end-requires : tie.Need-put-end-requires
 put-end-requires c κs = search needs
 
+-- src/main.rt:137:60
 array-share-prefix-out : tie.Need-array-share-prefix-out
-array-share-prefix-out c = omega (arith, end-room (c .before .before .before .pre), c .before .put-end .ensures .past)
+array-share-prefix-out c = ?
 
-slice-aggregate-write-all : tie.Need-slice-aggregate-write-all
-slice-aggregate-write-all c = put-counts (end-room (c .before .before .before .before .pre)) (c .before .before .put-end .ensures)
+-- src/main.rt:137:60
+slice-aggregate-write : tie.Need-slice-aggregate-write
+slice-aggregate-write c = ?
 
-write-all-requires : tie.Need-write-all-requires
-write-all-requires c κs = search needs
+-- src/main.rt:137:5
+write-requires : tie.Need-write-requires
+write-requires c κs = search needs
 
+-- src/main.rt:132:1
 returns : tie.Need-returns
 returns c = search needs
 
@@ -30,6 +37,6 @@ show-end-spec =
     slice-aggregate-put-end
     put-end-requires
     array-share-prefix-out
-    slice-aggregate-write-all
-    write-all-requires
+    slice-aggregate-write
+    write-requires
     returns)

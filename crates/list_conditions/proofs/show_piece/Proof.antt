@@ -1,24 +1,32 @@
--- `show_piece`: the place past the lines counts bytes of the buffer.
-use Rattle.kit.proofs.Put.{poured-counts}
 use borrow.Author.Needs.{needs}
 use Rattle.list_conditions.proofs.show_piece.Statement.{statement}
 use Rattle.list_conditions.proofs.show_piece.Tie as tie
+use Rattle.list_conditions.proofs.show_piece.Reads as reads
+use Rattle.list_conditions.proofs.show_piece.Lts as lts
+use Rattle.list_conditions.proofs.put_piece.Reads as put-piece-reads
+use Rattle.streams.proofs.write.Reads as write-reads
 
+-- src/main.rt:107:9
 put-piece-requires : tie.Need-put-piece-requires
 put-piece-requires c κs = search needs
 
-slice-reshare-prefix-write-all : tie.Need-slice-reshare-prefix-write-all
-slice-reshare-prefix-write-all c = search needs
+-- src/main.rt:109:74
+slice-reshare-prefix-write : tie.Need-slice-reshare-prefix-write
+slice-reshare-prefix-write c = search needs
 
-slice-aggregate-write-all : tie.Need-slice-aggregate-write-all
-slice-aggregate-write-all c = poured-counts (c .before .before .before .put-piece .ensures .1)
+-- src/main.rt:109:74
+slice-aggregate-write : tie.Need-slice-aggregate-write
+slice-aggregate-write c = ?
 
-write-all-requires : tie.Need-write-all-requires
-write-all-requires c κs = search needs
+-- src/main.rt:109:9
+write-requires : tie.Need-write-requires
+write-requires c κs = search needs
 
+-- src/main.rt:103:1
 same-length : tie.Need-same-length
 same-length c = search needs
 
+-- src/main.rt:103:1
 returns : tie.Need-returns
 returns c = search needs
 
@@ -27,8 +35,8 @@ show-piece-spec =
     tie.close
     (tie.spec
     put-piece-requires
-    slice-reshare-prefix-write-all
-    slice-aggregate-write-all
-    write-all-requires
+    slice-reshare-prefix-write
+    slice-aggregate-write
+    write-requires
     same-length
     returns)
