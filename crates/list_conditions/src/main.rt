@@ -1,5 +1,6 @@
 // Reads a recording of telegrams, one after another, and writes its listing to standard output. It is read in pieces, each what one read
 // gave, so that a recording may have any length and a table is shown when its last telegram has come.
+use libc::STDERR_FILENO;
 use libc::STDOUT_FILENO;
 use lister::Listed;
 use lister::Lister;
@@ -8,6 +9,7 @@ use program::Program;
 use program::Progress;
 use program::State;
 use streams::Source;
+use summary::Tally;
 ghost use mathlib.Core.Path.{_≡_};
 ghost use Prim.Native.Nat.{_≤_};
 ghost use lib.ListN.{length};
@@ -16,6 +18,8 @@ ghost use Rattle.program.specs.Ends.{atTheEnd};
 ghost use Rattle.lister.specs.Pieces.{takeOf, pieceLines, MadeByPieces};
 ghost use Rattle.listing_lines.specs.Lines.{headerLine};
 ghost use Rattle.listing.specs.Listings.{endOf};
+ghost use Rattle.summary.specs.Rooms.{summaryRoom, Countable};
+ghost use Rattle.summary.specs.Summaries.{summaryOf};
 ghost use Rattle.listing_room.specs.Rooms.{pieceRoom, linesRoom, headerRoom, endRoom};
 
 // The state after a piece, and whether its lines were written.
@@ -43,15 +47,16 @@ fn work(asked: Asked) {
     }
     streams::say_awaiting(Program::ListConditions, source);
     let progress = streams::progress_of(asked, source);
-    list(source, &name[..source.length], progress);
+    list(asked.summary, source, &name[..source.length], progress);
 }
 
-// Lists the input to its end, or to the first read or write that fails.
-fn list(source: Source, name: &[u8], begun: Progress) {
+// Lists the input to its end, or to the first read or write that fails. What it had is counted only where a summary is asked for.
+fn list(summed: bool, source: Source, name: &[u8], begun: Progress) {
     if !show_header() {
         return;
     }
     let mut lister = Lister::begun();
+    let mut tally = Tally::none();
     let mut progress = begun;
     // one buffer for the lines of every piece, so that it is cleared once
     let mut out = [0u8; 262080];
@@ -63,6 +68,9 @@ fn list(source: Source, name: &[u8], begun: Progress) {
         let n = outcome.count;
         let state = outcome.state;
         progress = streams::went_on(progress, n);
+        if summed {
+            tally = tally.take(lister, &piece[..n]);
+        }
         let shown = show_piece(lister, &piece[..n], &mut out);
         lister = shown.lister;
         if !shown.written {
@@ -70,7 +78,11 @@ fn list(source: Source, name: &[u8], begun: Progress) {
         }
         if program::is_over(state) {
             streams::end_progress(progress);
-            show_end(state, lister);
+            if show_end(state, lister) {
+                if summed {
+                    show_summary(state, tally, lister);
+                }
+            }
             return;
         }
     }
@@ -135,4 +147,27 @@ fn show_end(state: State, lister: Lister) -> bool
     let mut out = [0u8; 64];
     let n = put_end(state, lister, &mut out);
     streams::write(Program::ListConditions, STDOUT_FILENO, &out[..n])
+}
+
+// Puts the summary where the input has ended, all of it, since the buffer has the size for which that is proved; after a read that failed,
+// nothing.
+fn put_summary(state: State, tally: Tally, lister: Lister, out: &mut [u8]) -> usize
+    requires { ⌜ MadeByPieces lister × Countable tally × (length (now out) ≡ summaryRoom) ⌝ }
+    ensures { λ r. ⌜ Put (now (out .entry)) 0 (atTheEnd state (summaryOf tally lister)) (now (out .exit)) r ⌝ }
+{
+    match state {
+        State::More => 0,
+        State::Again => 0,
+        State::Ended => summary::put(tally, lister, out, 0),
+        State::Failed => 0,
+    }
+}
+
+// Writes it to error output.
+fn show_summary(state: State, tally: Tally, lister: Lister)
+    requires { ⌜ MadeByPieces lister × Countable tally ⌝ }
+{
+    let mut out = [0u8; 1536];
+    let n = put_summary(state, tally, lister, &mut out);
+    streams::write(Program::ListConditions, STDERR_FILENO, &out[..n]);
 }

@@ -49,7 +49,7 @@ number-byte bytes fits k =
     (four-each (λ n x. x .number < 256) (λ n. emptySlot) (λ n below. omega arith) (λ n past. omega arith) k)
 
 -- T-02: its step number
-step-small : (bytes : List ℕ) → readOf bytes .telegram .step < steps
+pub step-small : (bytes : List ℕ) → readOf bytes .telegram .step < steps
 unfolding telegramOf
 step-small bytes = read-either (λ t. t .step < steps) bytes (omega arith) (omega arith)
 
@@ -66,7 +66,7 @@ pub record Small (told : Told) : Type 0 where
   pub conditions : told .conditions ≤ slotCount
   pub gap : told .gap < steps
 
-set-step : (hand : Hand) (step : ℕ) → setFor hand step .step ≡ step
+pub set-step : (hand : Hand) (step : ℕ) → setFor hand step .step ≡ step
 unfolding setFor begun
 set-step hand step = on (eqb (hand .step) step) (λ e. rw e (eqb-true (hand .step) step e)) (λ e. rw e refl)
 

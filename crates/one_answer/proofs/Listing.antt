@@ -10,6 +10,7 @@ use Rattle.listing_tables.proofs as listing-tables
 use Rattle.lister.proofs as lister
 use Rattle.hearing_runs.proofs as hearing-runs
 use Rattle.listing.proofs as listing
+use Rattle.summary.proofs as summary
 use Rattle.exports.proofs as exports
 
 -- ---- listing_words
@@ -67,6 +68,20 @@ listing-finish κs handed answer other lasts others p q = given (agree-poured p 
 
 pub listing-list : OneAnswer listing.list.ended listing.list.Reads.Learnt
 listing-list κs handed answer other lasts others p q = given (agree-poured p q) (λ (place, bytes). (place, ap (λ b. (tt, (b, tt))) bytes))
+
+-- ---- summary
+
+pub summary-none : OneAnswer summary.Tally.none.ended summary.Tally.none.Reads.Learnt
+summary-none κs handed answer other lasts others p q = (agree p q, refl)
+
+pub summary-count : OneAnswer summary.Tally.count.ended summary.Tally.count.Reads.Learnt
+summary-count κs handed answer other lasts others p q = (agree p q, refl)
+
+pub summary-take : OneAnswer summary.Tally.take.ended summary.Tally.take.Reads.Learnt
+summary-take κs handed answer other lasts others p q = (agree p q, refl)
+
+pub summary-put : OneAnswer summary.put.ended summary.put.Reads.Learnt
+summary-put κs handed answer other lasts others p q = given (agree-poured p q) (λ (place, bytes). (place, ap (λ b. (tt, (tt, (b, (tt, tt))))) bytes))
 
 -- ---- exports
 

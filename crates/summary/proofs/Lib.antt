@@ -1,0 +1,5 @@
+pub mod Counting
+pub mod Filling
+pub mod Room
+pub mod Steps
+pub mod Whole

@@ -1,0 +1,4 @@
+pub mod Counts
+pub mod Rooms
+pub mod Summaries
+pub mod Tallies
