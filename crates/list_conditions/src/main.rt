@@ -12,6 +12,7 @@ use streams::Source;
 use summary::Tally;
 ghost use mathlib.Core.Path.{_≡_};
 ghost use Prim.Native.Nat.{_≤_};
+ghost use mathlib.Core.Bool.{cond};
 ghost use lib.ListN.{length};
 ghost use Rattle.kit.specs.Put.{Put, Poured};
 ghost use Rattle.program.specs.Ends.{atTheEnd};
@@ -19,6 +20,7 @@ ghost use Rattle.lister.specs.Pieces.{takeOf, pieceLines, MadeByPieces};
 ghost use Rattle.listing_lines.specs.Lines.{headerLine};
 ghost use Rattle.listing.specs.Listings.{endOf};
 ghost use Rattle.summary.specs.Rooms.{summaryRoom, Countable};
+ghost use Rattle.summary.specs.Tallies.{countedPiece};
 ghost use Rattle.summary.specs.Summaries.{summaryOf};
 ghost use Rattle.listing_room.specs.Rooms.{pieceRoom, linesRoom, headerRoom, endRoom};
 
@@ -68,9 +70,7 @@ fn list(summed: bool, source: Source, name: &[u8], begun: Progress) {
         let n = outcome.count;
         let state = outcome.state;
         progress = streams::went_on(progress, n);
-        if summed {
-            tally = tally.take(lister, &piece[..n]);
-        }
+        tally = count_piece(summed, tally, lister, &piece[..n]);
         let shown = show_piece(lister, &piece[..n], &mut out);
         lister = shown.lister;
         if !shown.written {
@@ -86,6 +86,17 @@ fn list(summed: bool, source: Source, name: &[u8], begun: Progress) {
             return;
         }
     }
+}
+
+// Counts what a piece brings, where that is asked for.
+fn count_piece(summed: bool, tally: Tally, lister: Lister, piece: &[u8]) -> Tally
+    requires { ⌜ MadeByPieces lister ⌝ }
+    ensures { λ r. ⌜ r ≡ cond summed (countedPiece tally lister (now (piece .entry))) tally ⌝ }
+{
+    if summed {
+        return tally.take(lister, piece);
+    }
+    tally
 }
 
 // Puts the header, all of it: the buffer has the size for which that is proved (listing_room/specs/Rooms.antt).
