@@ -21,7 +21,7 @@ use Rattle.lister.specs.Hearings.{cut, telegramsIn, tailOf, listenerThrough, ta
 use Rattle.lister.specs.Pieces.{begunLister, keeping, takeOf}
 use Rattle.summary.specs.Counts.{toldThrough, howManyTold, firstFrom, forEachNumber, tallyOf}
 use Rattle.summary.specs.Summaries.{countLines, refusalLine, refusalPart, refusalParts, packetPart, packetParts, unfinishedLine, unfinishedPart, tailPart, summaryOf}
-use Rattle.summary.specs.Tallies.{withRefusal, countedAll, countedPiece}
+use Rattle.summary.specs.Tallies.{counted, countedAll, countedPiece}
 
 -- a telegram of this packet and step with no condition, by its first two bytes
 abbrev bare : ℕ → ℕ → List ℕ
@@ -37,5 +37,5 @@ recording =
 
 pub example : summaryOf (countedPiece (tallyOf []) begunLister recording) (takeOf begunLister recording)
     ≡ ascii "telegrams 10\ntables 1\nrepeats 1\nrefused 11: 2, first at telegram 1\nunfinished: step 2, packets 3 5\ntail of 7 bytes\n"
-unfolding summaryOf countLines refusalLine refusalPart refusalParts packetPart packetParts unfinishedLine unfinishedPart tailPart withRefusal countedAll countedPiece toldThrough howManyTold firstFrom forEachNumber tallyOf begunLister keeping takeOf cut telegramsIn tailOf listenerThrough tablesTaken freshListener takenBy heardOf hearOf isSame isKnown isCarried marksOf countOf bearsNumber isTwice clashes begun setFor isHeld joined isWhole digits decimal readRows codedAt takenBefore telegramOf readOf bodyOf slotRows codedOf secondAllowed secondHeld isConsidered verdictOf gapOf scan fold howMany ladder each
+unfolding summaryOf countLines refusalLine refusalPart refusalParts packetPart packetParts unfinishedLine unfinishedPart tailPart counted countedAll countedPiece toldThrough howManyTold firstFrom forEachNumber tallyOf begunLister keeping takeOf cut telegramsIn tailOf listenerThrough tablesTaken freshListener takenBy heardOf hearOf isSame isKnown isCarried marksOf countOf bearsNumber isTwice clashes begun setFor isHeld joined isWhole digits decimal readRows codedAt takenBefore telegramOf readOf bodyOf slotRows codedOf secondAllowed secondHeld isConsidered verdictOf gapOf scan fold howMany ladder each
 example = refl
