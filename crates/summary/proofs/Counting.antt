@@ -10,9 +10,9 @@ use native.Mathlib.Omega.{arith}
 use borrow.Author.Tests.{eqb-true, eqb-false, eq-eqb, ne-eqb}
 use Rattle.kit.proofs.Cases.{on}
 use Rattle.kit.proofs.Each.{length-one-each, one-each-at}
-use Rattle.listener.specs.Answers.{Outcome, aRefusal, aRepeat, aPart, aTable, Told}
-use Rattle.summary.specs.Counts.{isTable, isRepeat, isRefusal, tookTable, wasRepeat, refusedUnder, howManyTold, firstFrom, firstTold, upToMost, forEachNumber, tallyOf}
-use Rattle.summary.specs.Tallies.{oneMore, knownOr, withRefusal, countedBy, counted, countedAll}
+use Rattle.listener.specs.Answers.{Told}
+use Rattle.summary.specs.Counts.{tookTable, wasRepeat, wasRefused, refusedUnder, howManyTold, firstFrom, firstTold, upToMost, forEachNumber, tallyOf}
+use Rattle.summary.specs.Tallies.{oneMore, knownOr, moreIf, storeIf, counted, countedAll}
 
 -- ---- one more at the end
 
@@ -38,6 +38,9 @@ module _ (such : Told → Bool) where
 
   count-no : (before : List Told) (told : Told) → such told ≡ false → upToMost (howManyTold such before) ≡ upToMost (howManyTold such (before ++ (told ∷ [])))
   count-no before told e = let none : _≡_ {A = ℕ} (cond (such told) 1 0) 0 = rw e refl in omega (arith, many-more before told, none)
+
+  count-more : (before : List Told) (told : Told) → moreIf (such told) (upToMost (howManyTold such before)) ≡ upToMost (howManyTold such (before ++ (told ∷ [])))
+  count-more before told = on (such told) (λ e. rw e (count-yes before told e)) (λ e. rw e (count-no before told e))
 
   first-yes : (before : List Told) (told : Told) → such told ≡ true
       → knownOr (upToMost (firstTold such before)) (oneMore (upToMost (length before))) ≡ upToMost (firstTold such (before ++ (told ∷ [])))
@@ -97,6 +100,12 @@ module _ (of next : ℕ → ℕ) where
 
 -- ---- one answer more
 
+abbrev refusedOf : List Told → ℕ → ℕ
+refusedOf told number = upToMost (howManyTold (refusedUnder number) told)
+
+abbrev firstOf : List Told → ℕ → ℕ
+firstOf told number = upToMost (firstTold (refusedUnder number) told)
+
 module _ (before : List Told) (told : Told) where
   abbrev all : List Told
   all = before ++ (told ∷ [])
@@ -104,101 +113,48 @@ module _ (before : List Told) (told : Told) where
   telegrams-more : oneMore (upToMost (length before)) ≡ upToMost (length all)
   telegrams-more = omega (arith, length-append before (told ∷ []))
 
-  -- of another number, and of no refusal
+  -- under its own number, under another, and where it was not refused
+  own-number : wasRefused told ≡ true → refusedUnder (told .number) told ≡ true
+  own-number e = ap (λ b. b && eqb (told .number) (told .number)) e ∙ eq-eqb (told .number) (told .number) refl
+
   other-number : (number : ℕ) → (number ≡ told .number → ⊥) → refusedUnder number told ≡ false
-  other-number number there = ap (λ b. isRefusal (told .outcome) && b) (ne-eqb (told .number) number (λ p. there (sym p))) ∙ none (told .outcome)
-    where
-      none : (o : Outcome) → isRefusal o && false ≡ false
-      none aRefusal = refl
-      none aRepeat = refl
-      none aPart = refl
-      none aTable = refl
+  other-number number there =
+      ap (λ b. wasRefused told && b) (ne-eqb (told .number) number (λ p. there (sym p))) ∙ on (wasRefused told) (λ e. rw e refl) (λ e. rw e refl)
 
-  no-refusal : isRefusal (told .outcome) ≡ false → (number : ℕ) → refusedUnder number told ≡ false
-  no-refusal e number = ap (λ b. b && eqb (told .number) number) e
+  no-number : wasRefused told ≡ false → (number : ℕ) → refusedUnder number told ≡ false
+  no-number e number = ap (λ b. b && eqb (told .number) number) e
 
-  -- the rows of refusals as they are, and with this one
-  refused-same : isRefusal (told .outcome) ≡ false
-      → forEachNumber (λ number. upToMost (howManyTold (refusedUnder number) before)) ≡ forEachNumber (λ number. upToMost (howManyTold (refusedUnder number) all))
-  refused-same e = row-same _ _ (λ number. count-no (refusedUnder number) before told (no-refusal e number))
+  -- so the rows are stored where it was refused, and else stay
+  refused-more : storeIf (wasRefused told) (forEachNumber (refusedOf before)) (told .number) (oneMore (getD (forEachNumber (refusedOf before)) (told .number) 0)) ≡ forEachNumber (refusedOf all)
+  refused-more =
+      on (wasRefused told)
+      (λ e.
+      rw e
+      (row-set (refusedOf before) (refusedOf all) (told .number) (oneMore (getD (forEachNumber (refusedOf before)) (told .number) 0))
+      (λ inside. ap oneMore (row-at (refusedOf before) (told .number) inside) ∙ count-yes (refusedUnder (told .number)) before told (own-number e))
+      (λ number there. count-no (refusedUnder number) before told (other-number number there))))
+      (λ e. rw e (row-same (refusedOf before) (refusedOf all) (λ number. count-no (refusedUnder number) before told (no-number e number))))
 
-  first-same : isRefusal (told .outcome) ≡ false
-      → forEachNumber (λ number. upToMost (firstTold (refusedUnder number) before)) ≡ forEachNumber (λ number. upToMost (firstTold (refusedUnder number) all))
-  first-same e = row-same _ _ (λ number. first-no (refusedUnder number) before told (no-refusal e number))
+  abbrev place : ℕ
+  place = oneMore (upToMost (length before))
 
-  module _ (refusal : isRefusal (told .outcome) ≡ true) where
-    own-number : refusedUnder (told .number) told ≡ true
-    own-number = ap (λ b. b && eqb (told .number) (told .number)) refusal ∙ eq-eqb (told .number) (told .number) refl
-
-    refused-more : set (forEachNumber (λ number. upToMost (howManyTold (refusedUnder number) before))) (told .number)
-        (oneMore (getD (forEachNumber (λ number. upToMost (howManyTold (refusedUnder number) before))) (told .number) 0))
-        ≡ forEachNumber (λ number. upToMost (howManyTold (refusedUnder number) all))
-    refused-more =
-        let of : ℕ → ℕ = λ number. upToMost (howManyTold (refusedUnder number) before) in
-        row-set of (λ number. upToMost (howManyTold (refusedUnder number) all)) (told .number) (oneMore (getD (forEachNumber of) (told .number) 0))
-        (λ inside. ap oneMore (row-at of (told .number) inside) ∙ count-yes (refusedUnder (told .number)) before told own-number)
-        (λ number there. count-no (refusedUnder number) before told (other-number number there))
-
-    first-known : set (forEachNumber (λ number. upToMost (firstTold (refusedUnder number) before))) (told .number)
-        (knownOr (getD (forEachNumber (λ number. upToMost (firstTold (refusedUnder number) before))) (told .number) 0) (oneMore (upToMost (length before))))
-        ≡ forEachNumber (λ number. upToMost (firstTold (refusedUnder number) all))
-    first-known =
-        let of : ℕ → ℕ = λ number. upToMost (firstTold (refusedUnder number) before) in
-        let place = oneMore (upToMost (length before)) in
-        row-set of (λ number. upToMost (firstTold (refusedUnder number) all)) (told .number) (knownOr (getD (forEachNumber of) (told .number) 0) place)
-        (λ inside. ap (λ n. knownOr n place) (row-at of (told .number) inside) ∙ first-yes (refusedUnder (told .number)) before told own-number)
-        (λ number there. first-no (refusedUnder number) before told (other-number number there))
-
-  counted-by : (outcome : Outcome) → told .outcome ≡ outcome → countedBy outcome (told .number) (tallyOf before) ≡ tallyOf all
-  unfolding tallyOf withRefusal
-  counted-by aRefusal e =
-      let rows = refused-more (ap isRefusal e) in
-      let places = first-known (ap isRefusal e) in
-      λ i.
-      record {
-        telegrams = telegrams-more i;
-        tables = count-no tookTable before told (ap isTable e) i;
-        repeats = count-no wasRepeat before told (ap isRepeat e) i;
-        refused = rows i;
-        first = places i;
-      }
-  counted-by aRepeat e =
-      let rows = refused-same (ap isRefusal e) in
-      let places = first-same (ap isRefusal e) in
-      λ i.
-      record {
-        telegrams = telegrams-more i;
-        tables = count-no tookTable before told (ap isTable e) i;
-        repeats = count-yes wasRepeat before told (ap isRepeat e) i;
-        refused = rows i;
-        first = places i;
-      }
-  counted-by aPart e =
-      let rows = refused-same (ap isRefusal e) in
-      let places = first-same (ap isRefusal e) in
-      λ i.
-      record {
-        telegrams = telegrams-more i;
-        tables = count-no tookTable before told (ap isTable e) i;
-        repeats = count-no wasRepeat before told (ap isRepeat e) i;
-        refused = rows i;
-        first = places i;
-      }
-  counted-by aTable e =
-      let rows = refused-same (ap isRefusal e) in
-      let places = first-same (ap isRefusal e) in
-      λ i.
-      record {
-        telegrams = telegrams-more i;
-        tables = count-yes tookTable before told (ap isTable e) i;
-        repeats = count-no wasRepeat before told (ap isRepeat e) i;
-        refused = rows i;
-        first = places i;
-      }
+  places-more : storeIf (wasRefused told) (forEachNumber (firstOf before)) (told .number) (knownOr (getD (forEachNumber (firstOf before)) (told .number) 0) place) ≡ forEachNumber (firstOf all)
+  places-more =
+      on (wasRefused told)
+      (λ e.
+      rw e
+      (row-set (firstOf before) (firstOf all) (told .number) (knownOr (getD (forEachNumber (firstOf before)) (told .number) 0) place)
+      (λ inside. ap (λ n. knownOr n place) (row-at (firstOf before) (told .number) inside) ∙ first-yes (refusedUnder (told .number)) before told (own-number e))
+      (λ number there. first-no (refusedUnder number) before told (other-number number there))))
+      (λ e. rw e (row-same (firstOf before) (firstOf all) (λ number. first-no (refusedUnder number) before told (no-number e number))))
 
   -- the counts of what was told, and one answer more
   pub counted-next : counted (tallyOf before) told ≡ tallyOf all
-  counted-next = counted-by (told .outcome) refl
+  unfolding counted tallyOf
+  counted-next =
+      let tables = count-more tookTable before told in
+      let repeats = count-more wasRepeat before told in
+      λ i. record { telegrams = telegrams-more i; tables = tables i; repeats = repeats i; refused = refused-more i; first = places-more i }
 
 -- and all answers, one after another
 pub counted-all : (before more : List Told) → countedAll (tallyOf before) more ≡ tallyOf (before ++ more)

@@ -1,4 +1,5 @@
 pub mod Counting
+pub mod Example
 pub mod Filling
 pub mod Room
 pub mod Steps

@@ -19,15 +19,15 @@ use Rattle.text.specs.Words.{refusedWord}
 use Rattle.text.proofs.Numerals.{decimal-short}
 use Rattle.telegram.specs.Tables.{packets}
 use Rattle.hand.specs.declared.Hand.{Hand}
-use Rattle.listener.specs.Answers.{Outcome, aRefusal, aRepeat, aPart, aTable, Told}
+use Rattle.listener.specs.Answers.{Told}
 use Rattle.lister.specs.Hearings.{telegramsIn}
 use Rattle.lister.specs.Pieces.{mostTables, afterKept, MadeByPieces}
 use Rattle.lister.specs.declared.Lister.{Lister}
 use Rattle.lister.proofs.Kept.{made-kept}
-use Rattle.summary.specs.Counts.{toldThrough, refusedUnder, howManyTold, firstTold, upToMost, forEachNumber, tallyOf}
+use Rattle.summary.specs.Counts.{toldThrough, tookTable, wasRepeat, wasRefused, refusedUnder, howManyTold, firstTold, upToMost, forEachNumber, tallyOf}
 use Rattle.summary.specs.Rooms.{Countable, summaryRoom}
-use Rattle.summary.specs.Summaries.{withNumber, telegramsWord, tablesWord, repeatsWord, countWord, placeWords, unfinishedWords, packetsWord, tailWords, bytesWord, countLine, countLines, refusalLine, refusalPart, refusalParts, packetHeld, packetPart, packetParts, unfinishedLine, unfinishedPart, tailPart, summaryOf}
-use Rattle.summary.specs.Tallies.{oneMore, knownOr, withRefusal, countedBy, counted, countedAll, countedPiece}
+use Rattle.summary.specs.Summaries.{withNumber, telegramsWord, tablesWord, repeatsWord, countWord, placeWords, unfinishedWords, packetsWord, tailWords, bytesWord, countLine, countLines, refusalLine, refusalPart, refusalAt, refusalParts, packetHeld, packetPart, packetAt, packetParts, unfinishedLine, unfinishedPart, tailPart, summaryOf}
+use Rattle.summary.specs.Tallies.{oneMore, knownOr, moreIf, storeIf, counted, countedAll, countedPiece}
 use Rattle.summary.specs.declared.Tally.{Tally}
 use Rattle.summary.proofs.Counting.{row-long, row-at}
 use Rattle.summary.proofs.Steps.{made-below}
@@ -59,30 +59,26 @@ one-fits : (count : ℕ) → count ≤ mostTables → (i : ℕ) → i < length (
 one-fits count most zero p = most
 one-fits count most (suc i) p = omega arith
 
-module _ (tally : Tally) (fits : Countable tally) where
-  counted-by-fits : (outcome : Outcome) (number : ℕ) → Countable (countedBy outcome number tally)
-  unfolding withRefusal
-  counted-by-fits aRefusal number =
-      let count = oneMore (getD (tally .refused) number 0) in
-      let known = getD (tally .first) number 0 in
-      let place = oneMore (tally .telegrams) in
-      let fitting = first-fits known place (fits .first number) (omega arith) in
-      record {
-        telegrams = omega arith;
-        tables = fits .tables;
-        repeats = fits .repeats;
-        refused = sets-each 0 (λ n. n ≤ mostTables) (count ∷ []) (tally .refused) number (one-fits count (omega arith)) (fits .refused);
-        first = sets-each 0 (λ n. n ≤ mostTables) (knownOr known place ∷ []) (tally .first) number (one-fits (knownOr known place) fitting) (fits .first);
-      }
-  counted-by-fits aRepeat number =
-      record { telegrams = omega arith; tables = fits .tables; repeats = omega arith; refused = fits .refused; first = fits .first }
-  counted-by-fits aPart number =
-      record { telegrams = omega arith; tables = fits .tables; repeats = fits .repeats; refused = fits .refused; first = fits .first }
-  counted-by-fits aTable number =
-      record { telegrams = omega arith; tables = omega arith; repeats = fits .repeats; refused = fits .refused; first = fits .first }
+more-fits : (so : Bool) (count : ℕ) → count ≤ mostTables → moreIf so count ≤ mostTables
+more-fits so count most = on so (λ e. rw e (omega arith)) (λ e. rw e most)
 
-  pub counted-fits : (told : Told) → Countable (counted tally told)
-  counted-fits told = counted-by-fits (told .outcome) (told .number)
+store-fits : (so : Bool) (row : List ℕ) (at number : ℕ) → ((i : ℕ) → getD row i 0 ≤ mostTables) → number ≤ mostTables → (i : ℕ) → getD (storeIf so row at number) i 0 ≤ mostTables
+store-fits so row at number fits most i =
+    on so (λ e. rw e (sets-each 0 (λ n. n ≤ mostTables) (number ∷ []) row at (one-fits number most) fits i)) (λ e. rw e (fits i))
+
+pub counted-fits : (tally : Tally) → Countable tally → (told : Told) → Countable (counted tally told)
+unfolding counted
+counted-fits tally fits told =
+    let number = told .number in
+    let known = getD (tally .first) number 0 in
+    let place = oneMore (tally .telegrams) in
+    record {
+      telegrams = omega arith;
+      tables = more-fits (tookTable told) (tally .tables) (fits .tables);
+      repeats = more-fits (wasRepeat told) (tally .repeats) (fits .repeats);
+      refused = store-fits (wasRefused told) (tally .refused) number (oneMore (getD (tally .refused) number 0)) (fits .refused) (omega arith);
+      first = store-fits (wasRefused told) (tally .first) number (knownOr known place) (fits .first) (first-fits known place (fits .first number) (omega arith));
+    }
 
 all-fits : (tally : Tally) → Countable tally → (told : List Told) → Countable (countedAll tally told)
 unfolding countedAll
@@ -139,7 +135,7 @@ unfolding refusalParts
 parts-short tally fits =
     omega (
       arith,
-      length-each-within (λ number. refusalPart number (getD (tally .refused) number 0) (getD (tally .first) number 0)) 73 0 16
+      length-each-within (refusalAt (tally .refused) (tally .first)) 73 0 16
           (λ i p. part-short i (getD (tally .refused) i 0) (getD (tally .first) i 0) (omega arith) (fits .refused i) (fits .first i)),
     )
 
@@ -150,7 +146,7 @@ packet-short held packet p = on held (λ e. rw e (numbered-short (ascii " ") 1 p
 packets-short : (held : List Bool) → length (packetParts held) ≤ 10
 unfolding packetParts
 packets-short held =
-    omega (arith, length-each-within (λ k. packetPart (packetHeld held k) (k + 3)) 2 0 packets (λ i p. packet-short (packetHeld held i) (i + 3) (omega arith)))
+    omega (arith, length-each-within (packetAt held) 2 0 packets (λ i p. packet-short (packetHeld held i) (i + 3) (omega arith)))
 
 unfinished-short : (step : ℕ) (held : List Bool) → step < 10000 → length (unfinishedLine step held) ≤ 41
 unfolding unfinishedLine

@@ -96,6 +96,11 @@ unfolding tallyOf
 tables-of-the-end recording room =
     omega (arith, many-tables freshListener (telegramsIn recording), recording-tables recording room, take-kept begunLister recording .few)
 
+-- so that they are those of `end T`, whatever the pieces
+pub pieces-tables : (pieces : List (List ℕ)) → length (together pieces) ≤ mostTables
+    → countedPieces (tallyOf []) begunLister pieces .tables ≡ tablesTaken freshListener (telegramsIn (together pieces))
+pieces-tables pieces room = ap (λ (t : Tally). t .tables) (whatever-the-pieces pieces) ∙ tables-of-the-end (together pieces) room
+
 -- G-01: the telegrams are all that are whole
 told-long : (l : Listener) (n : ℕ) (bytes : List ℕ) → length (toldThrough l (cut n bytes)) ≡ n
 unfolding toldThrough cut

@@ -35,15 +35,18 @@ isRefusal aRepeat = false
 isRefusal aPart = false
 isRefusal aTable = false
 
--- a table was taken; a telegram was a repeat; it was refused under this number
+-- a table was taken; the telegram was a repeat; it was refused; it was refused under this number
 abbrev pub tookTable : Told → Bool
 tookTable told = isTable (told .outcome)
 
 abbrev pub wasRepeat : Told → Bool
 wasRepeat told = isRepeat (told .outcome)
 
+abbrev pub wasRefused : Told → Bool
+wasRefused told = isRefusal (told .outcome)
+
 abbrev pub refusedUnder : ℕ → Told → Bool
-refusedUnder number told = isRefusal (told .outcome) && eqb (told .number) number
+refusedUnder number told = wasRefused told && eqb (told .number) number
 
 -- how many of them are such
 unfoldable pub howManyTold : (Told → Bool) → List Told → ℕ

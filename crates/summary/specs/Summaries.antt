@@ -63,9 +63,13 @@ refusalLine number count place = withNumber refusedWord number ++ (withNumber co
 unfoldable pub refusalPart : ℕ → ℕ → ℕ → List ℕ
 refusalPart number count place = cond (eqb count 0) [] (refusalLine number count place)
 
+-- that of one number, of the row of counts and the row of places
+abbrev pub refusalAt : List ℕ → List ℕ → ℕ → List ℕ
+refusalAt refused first number = refusalPart number (getD refused number 0) (getD first number 0)
+
 -- for each number, ascending
 unfoldable pub refusalParts : List ℕ → List ℕ → List ℕ
-refusalParts refused first = each (λ number. refusalPart number (getD refused number 0) (getD first number 0)) 0 refusalNumbers
+refusalParts refused first = each (refusalAt refused first) 0 refusalNumbers
 
 -- L-03: packet k of the five is held
 abbrev pub packetHeld : List Bool → ℕ → Bool
@@ -75,9 +79,13 @@ packetHeld held k = getD held k false
 unfoldable pub packetPart : Bool → ℕ → List ℕ
 packetPart held packet = cond held (withNumber (ascii " ") packet) []
 
--- T-01: packets 3 to 7, ascending
+-- packet k of the five, which are 3 to 7
+abbrev pub packetAt : List Bool → ℕ → List ℕ
+packetAt held k = packetPart (packetHeld held k) (k + firstPacket)
+
+-- T-01: ascending
 unfoldable pub packetParts : List Bool → List ℕ
-packetParts held = each (λ k. packetPart (packetHeld held k) (k + firstPacket)) 0 packets
+packetParts held = each (packetAt held) 0 packets
 
 -- `unfinished: step S, packets A B C`: those that are held, ascending
 unfoldable pub unfinishedLine : ℕ → List Bool → List ℕ

@@ -1,15 +1,15 @@
 -- Counts that go on: with one answer more, with those of a piece, and with those of several pieces. proofs/Whole.antt proves that they come
 -- to the counts of Counts.antt, whatever the pieces.
 use Prim.Native.Nat.{ℕ, _+_}
-use mathlib.Core.Bool.{cond}
+use mathlib.Core.Bool.{Bool, cond}
 use mathlib.Core.List.{List, [], _∷_}
 use lib.Dec.{eqb}
 use lib.ListN.{getD, set}
-use Rattle.listener.specs.Answers.{Outcome, aRefusal, aRepeat, aPart, aTable, Told}
+use Rattle.listener.specs.Answers.{Told}
 use Rattle.lister.specs.Hearings.{telegramsIn}
 use Rattle.lister.specs.Pieces.{afterKept, takeOf}
 use Rattle.lister.specs.declared.Lister.{Lister}
-use Rattle.summary.specs.Counts.{toldThrough, upToMost}
+use Rattle.summary.specs.Counts.{toldThrough, tookTable, wasRepeat, wasRefused, upToMost}
 use Rattle.summary.specs.declared.Tally.{Tally}
 
 -- Q-104: one more
@@ -20,47 +20,23 @@ oneMore count = upToMost (count + 1)
 abbrev pub knownOr : ℕ → ℕ → ℕ
 knownOr first place = cond (eqb first 0) place first
 
--- R-20: one telegram more, refused under this number; past the sixteen numbers nothing is counted but the telegram
-unfoldable pub withRefusal : Tally → ℕ → Tally
-withRefusal tally number =
-    record {
-      telegrams = oneMore (tally .telegrams);
-      tables = tally .tables;
-      repeats = tally .repeats;
-      refused = set (tally .refused) number (oneMore (getD (tally .refused) number 0));
-      first = set (tally .first) number (knownOr (getD (tally .first) number 0) (oneMore (tally .telegrams)));
-    }
+-- one more, and a number stored in a row, where this is so; past the end of a row nothing is stored
+abbrev pub moreIf : Bool → ℕ → ℕ
+moreIf so count = cond so (oneMore count) count
 
--- C-12: one telegram more, by its outcome and its number
-abbrev pub countedBy : Outcome → ℕ → Tally → Tally
-countedBy aRefusal number tally = withRefusal tally number
-countedBy aRepeat number tally =
-    record {
-      telegrams = oneMore (tally .telegrams);
-      tables = tally .tables;
-      repeats = oneMore (tally .repeats);
-      refused = tally .refused;
-      first = tally .first;
-    }
-countedBy aPart number tally =
-    record {
-      telegrams = oneMore (tally .telegrams);
-      tables = tally .tables;
-      repeats = tally .repeats;
-      refused = tally .refused;
-      first = tally .first;
-    }
-countedBy aTable number tally =
-    record {
-      telegrams = oneMore (tally .telegrams);
-      tables = oneMore (tally .tables);
-      repeats = tally .repeats;
-      refused = tally .refused;
-      first = tally .first;
-    }
+abbrev pub storeIf : Bool → List ℕ → ℕ → ℕ → List ℕ
+storeIf so row at number = cond so (set row at number) row
 
-abbrev pub counted : Tally → Told → Tally
-counted tally told = countedBy (told .outcome) (told .number) tally
+-- C-12: one telegram more, and one more of what it was: a table, a repeat, or refused under its number, with its place where none is known
+unfoldable pub counted : Tally → Told → Tally
+counted tally told =
+    record {
+      telegrams = oneMore (tally .telegrams);
+      tables = moreIf (tookTable told) (tally .tables);
+      repeats = moreIf (wasRepeat told) (tally .repeats);
+      refused = storeIf (wasRefused told) (tally .refused) (told .number) (oneMore (getD (tally .refused) (told .number) 0));
+      first = storeIf (wasRefused told) (tally .first) (told .number) (knownOr (getD (tally .first) (told .number) 0) (oneMore (tally .telegrams)));
+    }
 
 -- one after another
 unfoldable pub countedAll : Tally → List Told → Tally

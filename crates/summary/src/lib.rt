@@ -9,12 +9,12 @@ ghost use mathlib.Core.List.{[]};
 ghost use Rattle.kit.specs.Loops.{any};
 ghost use Rattle.kit.specs.Put.{Poured};
 ghost use Rattle.telegram.specs.Tables.{packets};
-ghost use Rattle.listener.specs.Answers.{toldOf};
+ghost use Rattle.listener.specs.Answers.{refusedAs, toldOf};
 ghost use Rattle.listener.specs.Lent.{listenerIn};
 ghost use Rattle.lister.specs.Hearings.{heardBy};
 ghost use Rattle.lister.specs.Pieces.{MadeByPieces};
 ghost use Rattle.summary.specs.Counts.{tallyOf};
-ghost use Rattle.summary.specs.Tallies.{oneMore, knownOr, withRefusal, counted, countedPiece};
+ghost use Rattle.summary.specs.Tallies.{oneMore, knownOr, counted, countedPiece};
 ghost use Rattle.summary.specs.Summaries.{withNumber, countLine, countLines, refusalLine, refusalPart, refusalParts, packetHeld, packetPart, packetParts, unfinishedLine, unfinishedPart, tailPart, summaryOf};
 
 // Refusals have numbers up to 15.
@@ -124,7 +124,7 @@ fn first_or(first: u64, place: u64) -> u64
 
 // With one telegram more, which was refused under this number. The listener gives none above 15.
 fn refuse(tally: Tally, number: u8) -> Tally
-    ensures { λ r. ⌜ r ≡ withRefusal tally number ⌝ }
+    ensures { λ r. ⌜ r ≡ counted tally (refusedAs number) ⌝ }
 {
     let place = one_more(tally.telegrams);
     let mut refused = tally.refused;

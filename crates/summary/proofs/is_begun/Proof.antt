@@ -22,7 +22,9 @@ array-read-if1 : tie.Need-array-read-if1 Inv-loop μ-loop
 array-read-if1 c = search needs
 
 returns : tie.Need-returns Inv-loop μ-loop
-returns c = sym (c .before .before .loop .inv .1 ∙ scan-hit (packetHeld (c .before .before .before .args .t1)) (λ i. true) false 5 (c .before .before .loop .k) (search needs) (c .if1 .taken))
+returns c =
+    let l = c .before .before in
+    sym (l .loop .inv .1 ∙ scan-hit (packetHeld (l .before .args .t1)) (λ i. true) false 5 (l .loop .k) (search needs) (c .if1 .taken))
 
 add-k : tie.Need-add-k Inv-loop μ-loop
 add-k c = search needs
@@ -31,10 +33,14 @@ loop-less : tie.Need-loop-less Inv-loop μ-loop
 loop-less c = search needs
 
 loop-again : tie.Need-loop-again Inv-loop μ-loop
-loop-again c = (search needs, c .before .before .loop .inv .1 ∙ scan-go (packetHeld (c .before .before .before .args .t1)) (λ i. true) false 5 (c .before .before .loop .k) (search needs) (c .if1 .left))
+loop-again c =
+    let l = c .before .before in
+    (search needs, l .loop .inv .1 ∙ scan-go (packetHeld (l .before .args .t1)) (λ i. true) false 5 (l .loop .k) (search needs) (c .if1 .left))
 
 returns-2 : tie.Need-returns-2 Inv-loop μ-loop
-returns-2 c = sym (c .before .loop .inv .1 ∙ scan-end (packetHeld (c .before .before .args .t1)) (λ i. true) false 5 (c .before .loop .k) (search needs))
+returns-2 c =
+    let l = c .before in
+    sym (l .loop .inv .1 ∙ scan-end (packetHeld (l .before .args .t1)) (λ i. true) false 5 (l .loop .k) (search needs))
 
 pub is-begun-spec : {M : Type 1} → statement M
 is-begun-spec =

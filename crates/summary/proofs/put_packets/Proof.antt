@@ -1,17 +1,17 @@
 -- `put_packets`: after each turn the packets so far are put.
-use Prim.Native.Nat.{_+_, _-_, _≤_}
+use Prim.Native.Nat.{_-_, _≤_}
 use mathlib.Core.Path.{_≡_, sym, ap, _∙_}
 use native.Mathlib.Omega.{arith}
 use Rattle.kit.specs.Each.{each}
 use Rattle.kit.specs.Put.{Poured}
 use Rattle.kit.proofs.Put.{poured-as, poured-each, poured-here, poured-length, poured-then}
-use Rattle.summary.specs.Summaries.{packetHeld, packetPart, packetParts}
+use Rattle.summary.specs.Summaries.{packetAt, packetParts}
 use borrow.Author.Needs.{needs}
 use Rattle.summary.proofs.put_packets.Statement.{statement}
 use Rattle.summary.proofs.put_packets.Tie as tie
 
 abbrev Inv-loop : tie.InvT-loop
-Inv-loop out₀ at held next₀ k₀ out next k = (k ≤ 5) × Poured out₀ next₀ (each (λ i. packetPart (packetHeld held i) (i + 3)) 0 k) out next
+Inv-loop out₀ at held next₀ k₀ out next k = (k ≤ 5) × Poured out₀ next₀ (each (packetAt held) 0 k) out next
 
 abbrev μ-loop : tie.MeasureT-loop
 μ-loop out₀ at held next₀ k₀ out next k = 5 - k
@@ -45,7 +45,7 @@ loop-again : tie.Need-loop-again Inv-loop μ-loop
 loop-again c =
     let l = c .before .before .before .before .before in
     let args = c .before .before .before .before .before .before .before .before .before .before .before .before .args in
-    (search needs, poured-each (λ i. packetPart (packetHeld (args .t1) i) (i + 3)) (l .loop .k) (l .loop .inv .1) (c .before .before .put-packet .ensures))
+    (search needs, poured-each (packetAt (args .t1)) (l .loop .k) (l .loop .inv .1) (c .before .before .put-packet .ensures))
 
 same-length : tie.Need-same-length Inv-loop μ-loop
 same-length c = poured-length (c .before .loop .inv .1) ∙ poured-length (c .before .before .before .before .put-words .ensures)
@@ -56,7 +56,7 @@ returns c =
     let l = c .before .loop in
     let args = c .before .before .before .before .before .before .before .before .args in
     let all : l .k ≡ 5 = omega arith in
-    poured-then (c .before .before .before .before .put-words .ensures) (poured-as (ap (λ n. each (λ i. packetPart (packetHeld (args .t1) i) (i + 3)) 0 n) (sym all)) (l .inv .1))
+    poured-then (c .before .before .before .before .put-words .ensures) (poured-as (ap (λ n. each (packetAt (args .t1)) 0 n) (sym all)) (l .inv .1))
 
 pub put-packets-spec : {M : Type 1} → statement M
 put-packets-spec =

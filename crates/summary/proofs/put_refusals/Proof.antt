@@ -1,18 +1,17 @@
 -- `put_refusals`: after each turn the lines of the numbers so far are put.
 use Prim.Native.Nat.{_-_, _≤_}
 use mathlib.Core.Path.{_≡_, sym, ap, _∙_}
-use lib.ListN.{getD}
 use native.Mathlib.Omega.{arith}
 use Rattle.kit.specs.Each.{each}
 use Rattle.kit.specs.Put.{Poured}
 use Rattle.kit.proofs.Put.{poured-as, poured-each, poured-here, poured-length, poured-then}
-use Rattle.summary.specs.Summaries.{refusalPart, refusalParts}
+use Rattle.summary.specs.Summaries.{refusalAt, refusalParts}
 use borrow.Author.Needs.{needs}
 use Rattle.summary.proofs.put_refusals.Statement.{statement}
 use Rattle.summary.proofs.put_refusals.Tie as tie
 
 abbrev Inv-loop : tie.InvT-loop
-Inv-loop out₀ at refused first next₀ number₀ out next number = (number ≤ 16) × Poured out₀ next₀ (each (λ n. refusalPart n (getD refused n 0) (getD first n 0)) 0 number) out next
+Inv-loop out₀ at refused first next₀ number₀ out next number = (number ≤ 16) × Poured out₀ next₀ (each (refusalAt refused first) 0 number) out next
 
 abbrev μ-loop : tie.MeasureT-loop
 μ-loop out₀ at refused first next₀ number₀ out next number = 16 - number
@@ -52,7 +51,7 @@ loop-again : tie.Need-loop-again Inv-loop μ-loop
 loop-again c =
     let l = c .before .before .before .before .before in
     let args = c .before .before .before .before .before .before .before .before .before .before .before .before .args in
-    (search needs, poured-each (λ n. refusalPart n (getD (args .t1) n 0) (getD (args .t2) n 0)) (l .loop .number) (l .loop .inv .1) (c .before .before .put-refusal .ensures))
+    (search needs, poured-each (refusalAt (args .t1) (args .t2)) (l .loop .number) (l .loop .inv .1) (c .before .before .put-refusal .ensures))
 
 same-length : tie.Need-same-length Inv-loop μ-loop
 same-length c = poured-length (c .before .loop .inv .1) ∙ poured-length (c .before .before .before .before .put-words .ensures)
@@ -63,7 +62,7 @@ returns c =
     let l = c .before .loop in
     let args = c .before .before .before .before .before .before .before .before .args in
     let all : l .number ≡ 16 = omega arith in
-    poured-then (c .before .before .before .before .put-words .ensures) (poured-as (ap (λ n. each (λ i. refusalPart i (getD (args .t1) i 0) (getD (args .t2) i 0)) 0 n) (sym all)) (l .inv .1))
+    poured-then (c .before .before .before .before .put-words .ensures) (poured-as (ap (λ n. each (refusalAt (args .t1) (args .t2)) 0 n) (sym all)) (l .inv .1))
 
 pub put-refusals-spec : {M : Type 1} → statement M
 put-refusals-spec =

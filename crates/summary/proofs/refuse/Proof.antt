@@ -4,7 +4,7 @@ use mathlib.Core.Path.{_≡_, sym, ap, _∙_}
 use lib.ListN.{length, getD, set}
 use lib.Seq.{set-out}
 use native.Mathlib.Omega.{arith}
-use Rattle.summary.specs.Tallies.{oneMore, knownOr, withRefusal}
+use Rattle.summary.specs.Tallies.{oneMore, knownOr, counted}
 use borrow.Author.Needs.{needs}
 use Rattle.summary.proofs.refuse.Statement.{statement}
 use Rattle.summary.proofs.refuse.Tie as tie
@@ -43,7 +43,7 @@ array-write-first : tie.Need-array-write-first
 array-write-first c = search needs
 
 returns : tie.Need-returns
-unfolding withRefusal
+unfolding counted
 returns c =
     let a = c .before .before .before .before .before .before .args in
     let tally = a .tally in
@@ -58,7 +58,7 @@ returns c =
     }
 
 returns-2 : tie.Need-returns-2
-unfolding withRefusal
+unfolding counted
 returns-2 c =
     let a = c .before .before .before .before .args in
     let tally = a .tally in

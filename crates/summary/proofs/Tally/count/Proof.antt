@@ -36,6 +36,7 @@ returns c =
     c .refuse .ensures ∙ sym (ap (λ a. counted tally (toldOf a)) (c .before .before .answer .given .1))
 
 returns-2 : tie.Need-returns-2
+unfolding counted
 returns-2 c =
     let tally = c .before .before .before .before .before .before .args .self in
     let telegrams = c .before .before .before .before .before .one-more .ensures in
@@ -43,6 +44,7 @@ returns-2 c =
     ∙ sym (ap (λ a. counted tally (toldOf a)) (c .before .enum-told .given .1))
 
 returns-3 : tie.Need-returns-3
+unfolding counted
 returns-3 c =
     let tally = c .before .before .before .before .before .args .self in
     let telegrams = c .before .before .before .before .one-more .ensures in
@@ -50,6 +52,7 @@ returns-3 c =
     ∙ sym (ap (λ a. counted tally (toldOf a)) (c .enum-told2 .given .1))
 
 returns-4 : tie.Need-returns-4
+unfolding counted
 returns-4 c =
     let tally = c .before .before .before .before .before .before .args .self in
     let telegrams = c .before .before .before .before .before .one-more .ensures in
