@@ -12,8 +12,9 @@
  * output's first bytes into the buffer, as far as the buffer reaches, leave the bytes past them alone, and answer how many bytes they
  * put. An answer that is less than the buffer's length says that all of the output is there; where it is the buffer's whole length,
  * some of it may be missing: lend a longer buffer, or one of the length that is always enough, and of a listing ask
- * bravolith_list_length. Each call takes a whole input and begins with a fresh desk, listener or record: no function keeps anything
- * between two calls, and none fails.
+ * bravolith_list_length. The lengths that are always enough are proved. Each call takes a whole input and begins with a fresh desk,
+ * listener or record: no function keeps anything between two calls, and none fails. Each takes less than 10 KB of stack, and
+ * bravolith_list_length some 20 KB, as measured.
  */
 #ifndef BRAVOLITH_H
 #define BRAVOLITH_H
@@ -27,7 +28,7 @@ extern "C" {
 
 /*
  * The lines of so many telegrams, which one listener hears from a fresh start, have at most so many bytes: 639 for each five of them,
- * since a table needs five, and 11 for each one over. This is proved, and so is what follows from it below.
+ * since a table needs five, and 11 for each one over.
  */
 #define BRAVOLITH_LINES_ROOM(telegrams) ((telegrams) / 5 * 639 + (telegrams) % 5 * 11)
 
@@ -44,7 +45,7 @@ size_t bravolith_list(const uint8_t *recording, size_t recording_length, uint8_t
 
 /*
  * How many bytes that listing has, so that one that fits its buffer exactly is told from one that was cut. It takes as long as the
- * listing itself, and 16 KB of stack. (Of a recording of more than 2^61 bytes the answer may be the greatest size_t for a longer one.)
+ * listing itself. Of a recording of more than 2^61 bytes the answer may be the greatest size_t for a longer listing.
  */
 size_t bravolith_list_length(const uint8_t *recording, size_t recording_length);
 

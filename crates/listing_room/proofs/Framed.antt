@@ -1,12 +1,14 @@
 -- How many bytes are printed at most for telegrams of any length, each after its length: as many as for so many telegrams of a recording.
 use Prim.Native.Nat.{ℕ, zero, suc, _+_, _≤_}
+use mathlib.Core.Path.{_≡_, refl}
 use mathlib.Core.List.{List, map}
 use lib.ListN.{length, drop, length-append}
 use native.Mathlib.Omega.{arith}
 use Rattle.kit.specs.Bytes.{Bytes, wordAt}
 use Rattle.kit.proofs.Bytes.{take-bytes, drop-bytes}
 use Rattle.kit.proofs.Cases.{on}
-use Rattle.frames.specs.Frames.{Framed, noBare, follows, sizeOf, isWholeFrame, firstOf, behind, framedUpTo, callsOf, isShort, shortTail}
+use Rattle.frames.specs.Frames.{Framed, noBare, follows, sizeOf, isWholeFrame, firstOf, behind, framedUpTo, callsOf, shortTail}
+use Rattle.frames.proofs.Splitting.{tail-most}
 use Rattle.listener.specs.Listeners.{freshListener}
 use Rattle.lister.specs.Hearings.{linesFor}
 use Rattle.hearing_runs.specs.Runs.{framedTelegrams, shortTelegramLine, linesHeardBy, linesHeard}
@@ -25,9 +27,9 @@ framed-bytes bare (suc most) input fits =
     ))
     (λ e. rw e tt)
 
-tail-short : (input : List ℕ) → length (shortTail noBare shortTelegramLine input) ≤ 15
-unfolding shortTail shortTelegramLine
-tail-short input = on (isShort noBare input) (λ e. rw e (omega arith)) (λ e. rw e (omega arith))
+short-long : length shortTelegramLine ≡ 15
+unfolding shortTelegramLine
+short-long = refl
 
 -- M-1b, G-03, G-07: the room for the telegrams that the input has whole, and 15 bytes more, for an input that ends inside one
 pub hearing-short : (input : List ℕ) → Bytes input → length (linesHeard input) ≤ telegramsRoom (length (framedTelegrams input)) + 15
@@ -37,5 +39,6 @@ hearing-short input fits =
       arith,
       length-append (linesFor freshListener (framedTelegrams input)) (shortTail noBare shortTelegramLine input),
       lines-room (framedTelegrams input) (framed-bytes noBare (length input) input fits),
-      tail-short input,
+      tail-most noBare shortTelegramLine input,
+      short-long,
     )
