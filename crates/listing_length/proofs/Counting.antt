@@ -2,11 +2,13 @@
 -- is printed.
 use Prim.Native.Nat.{ℕ, _+_, _-_, _≤_, min}
 use mathlib.Core.Path.{_≡_, sym, ap, _∙_}
+use mathlib.Core.Logic.{_↔_}
 use mathlib.Core.List.{List, [], _∷_, _++_}
 use lib.ListN.{length, take, drop, length-take, length-append}
 use lib.Seq.{take-all}
 use native.Mathlib.Omega.{arith}
 use Rattle.kit.specs.Bytes.{Bytes}
+use Rattle.kit.specs.Put.{Poured}
 use Rattle.kit.proofs.Bytes.{take-bytes, drop-bytes}
 use Rattle.listing_lines.specs.Lines.{headerLine}
 use Rattle.lister.specs.Pieces.{mostTables, begunLister, takeOf, pieceLines, madeBegun, takenPiece}
@@ -87,3 +89,8 @@ module _ (recording : List ℕ) where
 pub length-exact : (recording : List ℕ) → Bytes recording → length recording ≤ 0x2000000000000000 → listingLength recording ≡ length (listing recording)
 unfolding listingLength
 length-exact recording fits small = omega (arith, listing-short recording fits (omega arith))
+
+-- and what was put for it is the whole listing exactly where it has that length
+pub whole-told : (recording : List ℕ) → Bytes recording → length recording ≤ 0x2000000000000000 → {before after : List ℕ} {put : ℕ} → Poured before 0 (listing recording) after put
+    → (put ≡ listingLength recording) ↔ (length (listing recording) ≤ length before)
+whole-told recording fits small poured = (λ same. omega (arith, same, poured .past, length-exact recording fits small), λ room. omega (arith, room, poured .past, length-exact recording fits small))
