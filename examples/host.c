@@ -1,7 +1,7 @@
 /*
  * A host in C. It hands a list with one order to a fresh desk, takes the table's five telegrams for a recording, and prints the
- * recording's listing: document 01's example. Then it asks for single packets, hears telegrams of any length, reads a telegram from the
- * train and a miss, and knows a word of a listing.
+ * recording's listing: document 01's example. It tells a buffer that fits exactly from one that is too short. Then it asks for single
+ * packets, hears telegrams of any length, reads a telegram from the train and a miss, knows a word of a listing, and hands over nothing.
  */
 #include <stdio.h>
 #include <string.h>
@@ -28,10 +28,30 @@ static size_t frame(const uint8_t *tables, uint8_t *telegrams)
     return at;
 }
 
+/* Lends a buffer of so many bytes for the listing of a recording, and says whether all of it is there. */
+static void lend(const uint8_t *recording, size_t recording_length, uint8_t *out, size_t out_length)
+{
+    size_t put = bravolith_list(recording, recording_length, out, out_length);
+    size_t needed = bravolith_list_length(recording, recording_length);
+    printf("lent %u bytes: %u of %u put, %s\n", (unsigned)out_length, (unsigned)put, (unsigned)needed, put == needed ? "whole" : "cut");
+}
+
+/* Nothing at all, by null pointers: an empty recording, no list, no telegram, no call, no text and no buffer. */
+static int nothing(uint8_t *out, size_t out_length)
+{
+    size_t said = bravolith_list(NULL, 0, out, out_length);
+    if (fwrite(out, 1, said, stdout) != said || said != bravolith_list_length(NULL, 0))
+        return 0;
+    return bravolith_list(NULL, 0, NULL, 0) == 0 && bravolith_hear(NULL, 0, NULL, 0) == 0 && bravolith_run(NULL, 0, NULL, 0) == 0 &&
+           bravolith_run_lines(NULL, 0, NULL, 0) == 0 && bravolith_signals(NULL, 0, NULL, 0) == 0 &&
+           bravolith_write(NULL, 0, 3, out, 26) == 0 && bravolith_write(NULL, 0, 3, NULL, 0) == 10 &&
+           bravolith_word(NULL, 0) == BRAVOLITH_OTHER;
+}
+
 int main(void)
 {
     uint8_t tables[130 + 1];
-    uint8_t listing[5 * 650 + 100];
+    uint8_t listing[4096];
     size_t put = bravolith_run(lists, sizeof lists, tables, sizeof tables);
     size_t said = bravolith_run_lines(lists, sizeof lists, listing, sizeof listing);
     if (put != 130 || said != 0)
@@ -39,6 +59,11 @@ int main(void)
     said = bravolith_list(tables, put, listing, sizeof listing);
     if (fwrite(listing, 1, said, stdout) != said)
         return 1;
+
+    uint8_t room[BRAVOLITH_LIST_ROOM(130)];
+    for (size_t length = said - 1; length <= said; length++)
+        lend(tables, put, room, length);
+    lend(tables, put, room, sizeof room);
 
     uint8_t packet[26];
     for (unsigned asked = 2; asked <= 3; asked++)
@@ -57,5 +82,5 @@ int main(void)
     if (fwrite(listing, 1, said, stdout) != said)
         return 1;
 
-    return bravolith_word((const uint8_t *)"carried", 7) == BRAVOLITH_CARRIED ? 0 : 1;
+    return bravolith_word((const uint8_t *)"carried", 7) == BRAVOLITH_CARRIED && nothing(listing, sizeof listing) ? 0 : 1;
 }

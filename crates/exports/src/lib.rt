@@ -1,6 +1,6 @@
-// What other languages call. Each function but `bravolith_write` and `bravolith_word` takes bytes and a lent buffer, puts there text or
-// telegrams as the programs write them, and answers how many bytes it put. What has no room before the buffer's end is dropped, so that
-// an answer of the buffer's whole length tells that it may be too short. include/bravolith.h says the same in C.
+// What other languages call. Each function but `bravolith_list_length`, `bravolith_write` and `bravolith_word` takes bytes and a lent
+// buffer, puts there text or telegrams as the programs write them, and answers how many bytes it put. What has no room before the buffer's
+// end is dropped, so that an answer of the buffer's whole length tells that it may be too short. include/bravolith.h says the same in C.
 use wire::Verdict;
 ghost use mathlib.Core.Path.{_≡_};
 ghost use lib.ListN.{length};
@@ -9,6 +9,7 @@ ghost use Rattle.wire.specs.Verdicts.{numberOf};
 ghost use Rattle.telegram.specs.Telegrams.{writeRefusal, written};
 ghost use Rattle.desk.specs.Desks.{packetOf};
 ghost use Rattle.listing.specs.Listings.{listing};
+ghost use Rattle.listing_length.specs.Lengths.{listingLength};
 ghost use Rattle.hearing_runs.specs.Runs.{linesHeard};
 ghost use Rattle.listing_reader.specs.Fixed.{wordOf, codeOf};
 ghost use Rattle.desk_runs.specs.Runs.{runTables, refusedLines, deskAtEnd};
@@ -20,6 +21,14 @@ pub extern "C" fn bravolith_list(recording: &[u8], out: &mut [u8]) -> usize
     ensures { λ r. ⌜ Poured (now (out .entry)) 0 (listing (now (recording .entry))) (now (out .exit)) r ⌝ }
 {
     listing::list(recording, out)
+}
+
+// How many bytes that listing has, so that one that fits its buffer exactly is told from one that was cut.
+#[no_mangle]
+pub extern "C" fn bravolith_list_length(recording: &[u8]) -> usize
+    ensures { λ r. ⌜ r ≡ listingLength (now (recording .entry)) ⌝ }
+{
+    listing_length::length_of(recording)
 }
 
 // The lines that such a listing has for telegrams of any length, each after its length in two bytes, which one fresh listener hears.

@@ -152,3 +152,14 @@ module _ (bare : ℕ) (input : List ℕ) (end : length input ≡ 0) where
   pub tail-end : (line : List ℕ) → shortTail bare line input ≡ []
   unfolding shortTail
   tail-end line = ap (λ b. cond b line []) short-end
+
+-- ---- how much there is at most
+
+pub calls-few : (bare most : ℕ) (input : List ℕ) → length (framedUpTo bare most input) ≤ most
+unfolding framedUpTo
+calls-few bare zero input = omega arith
+calls-few bare (suc most) input = on (isWholeFrame bare input) (λ e. rw e (omega (arith, calls-few bare most (behind bare input)))) (λ e. rw e (omega arith))
+
+pub tail-most : (bare : ℕ) (line input : List ℕ) → length (shortTail bare line input) ≤ length line
+unfolding shortTail
+tail-most bare line input = on (isShort bare input) (λ e. rw e (omega arith)) (λ e. rw e (omega arith))

@@ -40,14 +40,16 @@ module _ (start : Lister) (piece : List ℕ) {from to : ℕ} (forth : from ≤ t
       step ∙ (ap (λ (s : Lister). takeOf s (take (to - from) (drop from piece))) same
       ∙ (sym (take-then start (take from piece) (take (to - from) (drop from piece))) ∙ ap (takeOf start) (sym bytes-to)))
 
+  pub lines-to : {lister : Lister} → lister ≡ takeOf start (take from piece)
+      → pieceLines start (take to piece) ≡ pieceLines start (take from piece) ++ pieceLines lister (take (to - from) (drop from piece))
+  lines-to same =
+      ap (pieceLines start) bytes-to
+      ∙ (lines-of-then start (take from piece) (take (to - from) (drop from piece))
+      ∙ ap (λ (s : Lister). pieceLines start (take from piece) ++ pieceLines s (take (to - from) (drop from piece))) (sym same))
+
   pub lines-again : {lister : Lister} {l m n : List ℕ} {at i j : ℕ} → lister ≡ takeOf start (take from piece) → Poured l at (pieceLines start (take from piece)) m i
       → Poured m i (pieceLines lister (take (to - from) (drop from piece))) n j → Poured l at (pieceLines start (take to piece)) n j
-  lines-again same a b =
-      poured-as
-      (ap (pieceLines start) bytes-to
-      ∙ (lines-of-then start (take from piece) (take (to - from) (drop from piece))
-      ∙ ap (λ (s : Lister). pieceLines start (take from piece) ++ pieceLines s (take (to - from) (drop from piece))) (sym same)))
-      (poured-then a b)
+  lines-again same a b = poured-as (lines-to same) (poured-then a b)
 
 -- a piece in two parts
 module _ (start : Lister) (piece : List ℕ) (cut : ℕ) where

@@ -2,9 +2,9 @@
 -- the program `list_conditions` ask for these sizes by their names in specs/Rooms.antt, and what puts the header and what puts the end promise by
 -- these laws that all of it is put.
 --
--- Each telegram prints at most 639 bytes. A piece makes at most one telegram whole for every 26 of its bytes, and one more with the bytes
--- that were kept; a piece of 10,400 bytes makes at most four hundred whole, whose lines are at most 255,600 bytes. That is so because every slot
--- that the listener holds was read from bytes, after any pieces.
+-- A piece makes at most one telegram whole for every 26 of its bytes, and one more with the bytes that were kept; a piece of 10,400 bytes makes
+-- at most four hundred whole, whose lines are at most 51,759 bytes: 639 for each five of them, and for the packets that were held before. That is
+-- so because every slot that the listener holds was read from bytes, after any pieces.
 use Prim.Native.Nat.{ℕ, zero, suc, _+_, _*_, _/_, _≤_}
 use mathlib.Core.Path.{_≡_, refl, sym, ap, _∙_, subst}
 use mathlib.Core.List.{List, [], _∷_, _++_}
@@ -17,19 +17,13 @@ use Rattle.kit.specs.Put.{Put, Poured}
 use Rattle.kit.proofs.Bytes.{take-bytes, drop-bytes, append-bytes}
 use Rattle.kit.proofs.Cases.{on, given}
 use Rattle.kit.proofs.Put.{put-length, poured-put}
-use Rattle.condition.specs.Slots.{emptySlot}
-use Rattle.telegram.specs.Telegrams.{readOf}
-use Rattle.telegram.proofs.Valid.{never-invalid}
-use Rattle.listener.specs.declared.Listener.{Listener}
-use Rattle.listener.proofs.Every.{Every, fresh-every, hear-every}
-use Rattle.listing_room.specs.Rooms.{pieceRoom, linesRoom, headerRoom, endRoom}
-use Rattle.listing_room.proofs.Sizes.{number-byte, hear-small}
+use Rattle.listener.proofs.Every.{Every, fresh-every}
+use Rattle.listing_room.specs.Rooms.{telegramsRoom, pieceRoom, linesRoom, headerRoom, endRoom}
 use Rattle.listing_lines.specs.Lines.{headerLine, endLine}
 use Rattle.listing_room.proofs.Lines.{header-long, refused-short, end-short}
-use Rattle.listing_tables.specs.Tables.{heardLines}
-use Rattle.listing_room.proofs.Tables.{Narrow, heard-short}
-use Rattle.listener.specs.Listeners.{carries, freshListener}
-use Rattle.lister.specs.Hearings.{cut, telegramsIn, tailOf, heardBy, listenerThrough, linesFor}
+use Rattle.listing_room.proofs.Tables.{Narrow}
+use Rattle.listing_room.proofs.Telegrams.{empty-narrow, AllBytes, through-narrow, lines-more, lines-room}
+use Rattle.lister.specs.Hearings.{cut, telegramsIn, tailOf}
 use Rattle.lister.specs.Pieces.{mostTables, begunLister, afterKept, keeping, takeOf, pieceLines, MadeByPieces, madeBegun, takenPiece}
 use Rattle.listing.specs.Listings.{tailLine, endOf, listing}
 use Rattle.listing.proofs.Whole.{in-one}
@@ -41,37 +35,25 @@ use Rattle.lister.proofs.Kept.{Kept, begun-kept, take-kept, made-kept, joined-k
 pub put-counts : {l m : List ℕ} {j : ℕ} {a : List ℕ} → length a ≤ length l → Put l 0 a m j → j ≡ length (take j m)
 put-counts {l} {m} {j} room put = sym (length-take-le j m (omega (arith, room, put .past, put-length put)))
 
--- ---- telegrams
+-- ---- the telegrams in bytes
 
-empty-narrow : Narrow emptySlot
-empty-narrow = (refl, omega arith)
+cut-bytes : (n : ℕ) (bytes : List ℕ) → Bytes bytes → AllBytes (cut n bytes)
+unfolding cut
+cut-bytes zero bytes fits = tt
+cut-bytes (suc n) bytes fits = (take-bytes 26 bytes fits, cut-bytes n (drop 26 bytes) (drop-bytes 26 bytes fits))
 
-module _ (listener : Listener) (narrow : Every Narrow listener) (telegram : List ℕ) (bytes : Bytes telegram) where
-  next-narrow : Every Narrow (heardBy listener telegram .listener)
-  next-narrow = hear-every Narrow empty-narrow carries listener (readOf telegram) narrow (λ k. (never-invalid telegram k, number-byte telegram bytes k))
+cut-long : (n : ℕ) (bytes : List ℕ) → length (cut n bytes) ≡ n
+unfolding cut
+cut-long zero bytes = refl
+cut-long (suc n) bytes = ap suc (cut-long n (drop 26 bytes))
 
-  telegram-short : length (heardLines (heardBy listener telegram)) ≤ 639
-  telegram-short = heard-short (heardBy listener telegram) (hear-small carries listener telegram) (next-narrow .picture)
+telegrams-bytes : (bytes : List ℕ) → Bytes bytes → AllBytes (telegramsIn bytes)
+unfolding telegramsIn
+telegrams-bytes bytes fits = cut-bytes (length bytes / 26) bytes fits
 
-cut-narrow : (n : ℕ) (bytes : List ℕ) → Bytes bytes → (listener : Listener) → Every Narrow listener → Every Narrow (listenerThrough listener (cut n bytes))
-unfolding cut listenerThrough
-cut-narrow zero bytes fits listener narrow = narrow
-cut-narrow (suc n) bytes fits listener narrow =
-    cut-narrow n (drop 26 bytes) (drop-bytes 26 bytes fits) (heardBy listener (take 26 bytes) .listener) (next-narrow listener narrow (take 26 bytes) (take-bytes 26 bytes fits))
-
-cut-short : (n : ℕ) (bytes : List ℕ) → Bytes bytes → (listener : Listener) → Every Narrow listener → length (linesFor listener (cut n bytes)) ≤ 639 * n
-unfolding cut linesFor
-cut-short zero bytes fits listener narrow = omega arith
-cut-short (suc n) bytes fits listener narrow =
-    let telegram = take 26 bytes in
-    let own : Bytes telegram = take-bytes 26 bytes fits in
-    let next = heardBy listener telegram .listener in
-    omega (
-      arith,
-      length-append (heardLines (heardBy listener telegram)) (linesFor next (cut n (drop 26 bytes))),
-      telegram-short listener narrow telegram own,
-      cut-short n (drop 26 bytes) (drop-bytes 26 bytes fits) next (next-narrow listener narrow telegram own),
-    )
+telegrams-long : (bytes : List ℕ) → length (telegramsIn bytes) ≡ length bytes / 26
+unfolding telegramsIn
+telegrams-long bytes = cut-long (length bytes / 26) bytes
 
 -- ---- pieces
 
@@ -98,20 +80,15 @@ module _ (lister : Lister) (fit : Fit lister) (piece : List ℕ) (bytes : Bytes 
         left = tailOf all;
         kept = take-kept lister piece;
         bytes = drop-bytes (length all / 26 * 26) all joined-bytes;
-        narrow = cut-narrow (length all / 26) all joined-bytes (lister .listener) (fit .narrow);
+        narrow = through-narrow (telegramsIn all) (telegrams-bytes all joined-bytes) (lister .listener) (fit .narrow);
       }
 
-  lines-short : length (pieceLines lister piece) ≤ 639 * ((length piece + 25) / 26)
-  unfolding pieceLines telegramsIn
+  lines-short : length (pieceLines lister piece) ≤ telegramsRoom ((length piece + 25) / 26) + 639
+  unfolding pieceLines
   lines-short =
       let all = afterKept lister piece in
       let long : length all ≡ length (fit .left) + length piece = ap length (joined-kept (fit .kept) piece) ∙ length-append (fit .left) piece in
-      omega (arith, cut-short (length all / 26) all joined-bytes (lister .listener) (fit .narrow), long, fit .kept .short)
-
--- every piece has bytes alone
-abbrev pub AllBytes : List (List ℕ) → Type 0
-AllBytes [] = Unit
-AllBytes (piece ∷ more) = Bytes piece × AllBytes more
+      omega (arith, lines-more (telegramsIn all) (telegrams-bytes all joined-bytes) (lister .listener) (fit .narrow), telegrams-long all, long, fit .kept .short)
 
 -- the state after pieces, the oldest first
 unfoldable pub afterAll : Lister → List (List ℕ) → Lister
@@ -126,8 +103,9 @@ after-fit (piece ∷ more) (own, bytes) lister fit = after-fit more bytes (takeO
 -- ---- what has room
 
 module _ (earlier : List (List ℕ)) (bytes : AllBytes earlier) (piece : List ℕ) (own : Bytes piece) where
-  -- after any pieces of bytes, the lines of a further one: at most 639 bytes for each telegram that becomes whole
-  pub piece-short : length (pieceLines (afterAll begunLister earlier) piece) ≤ 639 * ((length piece + 25) / 26)
+  -- after any pieces of bytes, the lines of a further one: the room for the telegrams that become whole, and that for a table whose packets
+  -- were held before
+  pub piece-short : length (pieceLines (afterAll begunLister earlier) piece) ≤ telegramsRoom ((length piece + 25) / 26) + 639
   piece-short = lines-short (afterAll begunLister earlier) (after-fit earlier bytes begunLister begun-fit) piece own
 
   -- those of a piece of the program's size
@@ -156,9 +134,8 @@ end-of-short lister few =
 pub end-room : {lister : Lister} → MadeByPieces lister → length (endOf lister) ≤ endRoom
 end-room {lister} m = given (made-kept m) (λ (bytes, k). omega (arith, end-of-short lister (k .few)))
 
--- G-01 to G-09: a whole listing has at most 639 bytes for each telegram that the recording has whole, and 49 more
-pub listing-short : (recording : List ℕ) → Bytes recording → length recording ≤ mostTables → length (listing recording) ≤ 639 * (length recording / 26) + 49
-unfolding telegramsIn
+-- G-01 to G-09: a whole listing has at most the room for the telegrams that the recording has whole, and 49 bytes more
+pub listing-short : (recording : List ℕ) → Bytes recording → length recording ≤ mostTables → length (listing recording) ≤ telegramsRoom (length recording / 26) + 49
 listing-short recording fits counted =
     let lines = pieceLines begunLister recording in
     let end = endOf (takeOf begunLister recording) in
@@ -171,6 +148,7 @@ listing-short recording fits counted =
       length-append lines end,
       header-long,
       ap length (recording-lines recording),
-      cut-short (length recording / 26) recording fits freshListener (fresh-every Narrow empty-narrow),
+      lines-room (telegramsIn recording) (telegrams-bytes recording fits),
+      telegrams-long recording,
       end-of-short (takeOf begunLister recording) (k .few),
     ))

@@ -11,6 +11,7 @@ use Rattle.lister.proofs as lister
 use Rattle.hearing_runs.proofs as hearing-runs
 use Rattle.listing.proofs as listing
 use Rattle.summary.proofs as summary
+use Rattle.listing_length.proofs as listing-length
 use Rattle.exports.proofs as exports
 
 -- ---- listing_words
@@ -83,10 +84,18 @@ summary-take κs handed answer other lasts others p q = (agree p q, refl)
 pub summary-put : OneAnswer summary.put.ended summary.put.Reads.Learnt
 summary-put κs handed answer other lasts others p q = given (agree-poured p q) (λ (place, bytes). (place, ap (λ b. (tt, (tt, (b, (tt, tt))))) bytes))
 
+-- ---- listing_length
+
+pub listing-length-length-of : OneAnswer listing-length.length_of.ended listing-length.length_of.Reads.Learnt
+listing-length-length-of κs handed answer other lasts others p q = (agree p q, refl)
+
 -- ---- exports
 
 pub exports-bravolith-list : OneAnswer exports.bravolith_list.ended exports.bravolith_list.Reads.Learnt
 exports-bravolith-list κs handed answer other lasts others p q = given (agree-poured p q) (λ (place, bytes). (place, ap (λ b. (tt, (b, tt))) bytes))
+
+pub exports-bravolith-list-length : OneAnswer exports.bravolith_list_length.ended exports.bravolith_list_length.Reads.Learnt
+exports-bravolith-list-length κs handed answer other lasts others p q = (agree p q, refl)
 
 pub exports-bravolith-hear : OneAnswer exports.bravolith_hear.ended exports.bravolith_hear.Reads.Learnt
 exports-bravolith-hear κs handed answer other lasts others p q = given (agree-poured p q) (λ (place, bytes). (place, ap (λ b. (tt, (b, tt))) bytes))

@@ -1,7 +1,6 @@
 //! Holds one function of the proved library against the plain one, on one
 //! input, byte for byte.
 
-use crate::proved;
 use crate::random::Random;
 use plain::telegram::TELEGRAM_BYTES;
 
@@ -11,42 +10,59 @@ pub struct Function {
     pub name: &'static str,
     pub proved: fn(&[u8], &mut [u8]) -> usize,
     pub plain: fn(&[u8], &mut Vec<u8>),
+    /// What the proved library says of the output's length before it is made:
+    /// how long it is, and how long it is at most.
+    pub length: Option<Length>,
     /// Whether the output is lines; otherwise it is telegrams.
     pub text: bool,
 }
 
+#[derive(Clone, Copy)]
+pub struct Length {
+    pub exact: fn(&[u8]) -> usize,
+    pub most: fn(usize) -> usize,
+}
+
 pub const LIST: Function = Function {
     name: "bravolith_list",
-    proved: proved::list,
+    proved: bravolith::list,
     plain: plain::listing::list,
+    length: Some(Length {
+        exact: bravolith::list_length,
+        most: bravolith::list_room,
+    }),
     text: true,
 };
 
 pub const HEAR: Function = Function {
     name: "bravolith_hear",
-    proved: proved::hear,
+    proved: bravolith::hear,
     plain: plain::hearing::hear,
+    length: None,
     text: true,
 };
 
 pub const RUN: Function = Function {
     name: "bravolith_run",
-    proved: proved::run,
+    proved: bravolith::run,
     plain: plain::run::run,
+    length: None,
     text: false,
 };
 
 pub const RUN_LINES: Function = Function {
     name: "bravolith_run_lines",
-    proved: proved::run_lines,
+    proved: bravolith::run_lines,
     plain: plain::run::run_lines,
+    length: None,
     text: true,
 };
 
 pub const SIGNALS: Function = Function {
     name: "bravolith_signals",
-    proved: proved::signals,
+    proved: bravolith::signals,
     plain: plain::calls::signals,
+    length: None,
     text: true,
 };
 
@@ -74,16 +90,26 @@ impl Holder {
         self.expected.clear();
         (function.plain)(input, &mut self.expected);
         let whole = self.expected.len();
+        let mut calls = 1;
+        if let Some(length) = function.length {
+            let (exact, most) = ((length.exact)(input), (length.most)(input.len()));
+            if exact != whole || most < whole {
+                return Err(format!(
+                    "the output has {whole} bytes, the proved length is {exact}, the room {most}"
+                ));
+            }
+            calls += 1;
+        }
         // More room than the text needs: a longer text would show.
         self.call(function, input, whole + random.between(1, 300), random)?;
         if !random.once_in(4) {
-            return Ok(1);
+            return Ok(calls);
         }
         let less = random.below(whole + 1);
         let near = whole.saturating_sub(random.between(1, 30));
         let lent = random.pick(&[0, 1.min(whole), less, less, near, whole]);
         self.call(function, input, lent, random)?;
-        Ok(2)
+        Ok(calls + 1)
     }
 
     fn call(

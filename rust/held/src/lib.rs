@@ -14,7 +14,6 @@ pub mod hold;
 pub mod inputs;
 pub mod loss;
 pub mod measured;
-pub mod proved;
 pub mod random;
 pub mod recording_regimes;
 pub mod regime;

@@ -1,8 +1,6 @@
 //! Holds the comparison of a listing's fixed words: each of them, and every
 //! text that is near one of them.
 
-use crate::proved;
-
 /// Document 01, "Listing program": the fixed words and their numbers.
 const WORDS: [(&[u8], u8); 4] = [
     (b"conditions 1\n", 1),
@@ -22,7 +20,7 @@ fn number(text: &[u8]) -> u8 {
 pub fn hold() -> Result<u64, String> {
     let mut told = 0;
     let mut check = |text: &[u8]| {
-        let answer = proved::word(text);
+        let answer = bravolith::word(text);
         if answer != number(text) {
             return Err(format!("bravolith_word answers {answer} to {text:?}"));
         }

@@ -4,7 +4,6 @@
 use crate::author::Author;
 use crate::desk_regimes::{distance_edges, ends_inside, mixed_churn, refused_between, twenty_new};
 use crate::hold::hex;
-use crate::proved;
 use crate::random::Random;
 use crate::regime::{Regime, Times};
 use crate::tally::by_number;
@@ -149,7 +148,7 @@ impl Writes {
             let before = random.bytes(length + GUARD);
             let (mut plain, mut proved) = (before.clone(), before.clone());
             let expected = plain::run::write(lists, packet, &mut plain[..length]);
-            let answer = proved::write(lists, packet, &mut proved[..length]);
+            let answer = bravolith::write(lists, packet, &mut proved[..length]);
             if answer != expected || proved != plain {
                 return Err(format!(
                     "packet {packet}, {length} bytes lent: answer {answer}, expected {expected}\n  before: {}\n  plain:  {}\n  proved: {}",
