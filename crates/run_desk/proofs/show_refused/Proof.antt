@@ -13,11 +13,11 @@ put-refused-requires c κs = search needs
 array-share-prefix-line : tie.Need-array-share-prefix-line
 array-share-prefix-line c = search needs
 
-slice-aggregate-write-all : tie.Need-slice-aggregate-write-all
-slice-aggregate-write-all c = poured-counts (c .before .before .put-refused .ensures)
+slice-aggregate-write : tie.Need-slice-aggregate-write
+slice-aggregate-write c = poured-counts (c .before .before .put-refused .ensures)
 
-write-all-requires : tie.Need-write-all-requires
-write-all-requires c κs = search needs
+write-requires : tie.Need-write-requires
+write-requires c κs = search needs
 
 returns : tie.Need-returns
 returns c = search needs
@@ -29,6 +29,6 @@ show-refused-spec =
     slice-aggregate-put-refused
     put-refused-requires
     array-share-prefix-line
-    slice-aggregate-write-all
-    write-all-requires
+    slice-aggregate-write
+    write-requires
     returns)
