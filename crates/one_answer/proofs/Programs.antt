@@ -62,4 +62,3 @@ program-put-awaiting κs handed answer other lasts others p q = given (agree-pou
 
 pub program-put-doing : OneAnswer program.put_doing.ended program.put_doing.Reads.Learnt
 program-put-doing κs handed answer other lasts others p q = given (agree-poured p q) (λ (place, bytes). (place, ap (λ b. (tt, (tt, (tt, (b, (tt, tt)))))) bytes))
-

@@ -102,7 +102,12 @@ fn read_call(source: Source, name: &[u8], bytes: &mut [u8]) -> Input
             length: 0,
         };
     }
-    let rest = streams::read_full(Program::ReadSignals, source, name, &mut bytes[..length as usize]);
+    let rest = streams::read_full(
+        Program::ReadSignals,
+        source,
+        name,
+        &mut bytes[..length as usize],
+    );
     let state = rest.state;
     if program::is_over(state) {
         return Input {

@@ -91,7 +91,12 @@ fn read_list(source: Source, name: &[u8], bytes: &mut [u8]) -> Input
         };
     }
     let length = wire::word(head[0], head[1]);
-    let rest = streams::read_full(Program::RunDesk, source, name, &mut bytes[..length as usize]);
+    let rest = streams::read_full(
+        Program::RunDesk,
+        source,
+        name,
+        &mut bytes[..length as usize],
+    );
     let state = rest.state;
     if program::is_over(state) {
         return Input {

@@ -38,7 +38,7 @@ slice-relend-prefix-read-full : tie.Need-slice-relend-prefix-read-full
 slice-relend-prefix-read-full c = search needs
 
 slice-aggregate-read-full-2 : tie.Need-slice-aggregate-read-full-2
-slice-aggregate-read-full-2 c = 
+slice-aggregate-read-full-2 c =
     let all = c .before .before .before .before .before .before .before .before .before .args .bytes .now in
     let small : c .before .word .result ≤ length all = search needs in
     sym (length-take-le (c .before .word .result) all small)

@@ -51,7 +51,7 @@ array-share-prefix-bytes : tie.Need-array-share-prefix-bytes Inv-loop μ-loop
 array-share-prefix-bytes c = search needs
 
 slice-aggregate-take : tie.Need-slice-aggregate-take Inv-loop μ-loop
-slice-aggregate-take c = 
+slice-aggregate-take c =
     let size = c .before .before .before .before .before .before .read-list .result .length in
     let all = c .before .before .before .before .before .before .read-list .last .1 .1 .0 in
     let small : size ≤ length all = search needs in
