@@ -89,11 +89,11 @@ fn list(summed: bool, source: Source, name: &[u8], begun: Progress) {
 }
 
 // Counts what a piece brings, where that is asked for.
-fn count_piece(summed: bool, tally: Tally, lister: Lister, piece: &[u8]) -> Tally
+fn count_piece(wanted: bool, tally: Tally, lister: Lister, piece: &[u8]) -> Tally
     requires { ⌜ MadeByPieces lister ⌝ }
-    ensures { λ r. ⌜ r ≡ cond summed (countedPiece tally lister (now (piece .entry))) tally ⌝ }
+    ensures { λ r. ⌜ r ≡ cond wanted (countedPiece tally lister (now (piece .entry))) tally ⌝ }
 {
-    if summed {
+    if wanted {
         return tally.take(lister, piece);
     }
     tally
@@ -143,12 +143,10 @@ fn put_end(state: State, lister: Lister, out: &mut [u8]) -> usize
     requires { ⌜ MadeByPieces lister × (length (now out) ≡ endRoom) ⌝ }
     ensures { λ r. ⌜ Put (now (out .entry)) 0 (atTheEnd state (endOf lister)) (now (out .exit)) r ⌝ }
 {
-    match state {
-        State::More => 0,
-        State::Again => 0,
-        State::Ended => listing::finish(lister, out, 0),
-        State::Failed => 0,
+    if program::is_ended(state) {
+        return listing::finish(lister, out, 0);
     }
+    0
 }
 
 // Writes it, and answers whether it was written.
@@ -166,12 +164,11 @@ fn put_summary(state: State, tally: Tally, lister: Lister, out: &mut [u8]) -> us
     requires { ⌜ MadeByPieces lister × Countable tally × (length (now out) ≡ summaryRoom) ⌝ }
     ensures { λ r. ⌜ Put (now (out .entry)) 0 (atTheEnd state (summaryOf tally lister)) (now (out .exit)) r ⌝ }
 {
-    match state {
-        State::More => 0,
-        State::Again => 0,
-        State::Ended => summary::put(tally, lister, out, 0),
-        State::Failed => 0,
+    let ended = program::is_ended(state);
+    if ended {
+        return summary::put(tally, lister, out, 0);
     }
+    0
 }
 
 // Writes it to error output.

@@ -62,3 +62,9 @@ program-put-awaiting κs handed answer other lasts others p q = given (agree-pou
 
 pub program-put-doing : OneAnswer program.put_doing.ended program.put_doing.Reads.Learnt
 program-put-doing κs handed answer other lasts others p q = given (agree-poured p q) (λ (place, bytes). (place, ap (λ b. (tt, (tt, (tt, (b, (tt, tt)))))) bytes))
+
+pub program-is-ended : OneAnswer program.is_ended.ended program.is_ended.Reads.Learnt
+program-is-ended κs handed answer other lasts others p q = (agree p q, refl)
+
+pub program-is-short : OneAnswer program.is_short.ended program.is_short.Reads.Learnt
+program-is-short κs handed answer other lasts others p q = (agree p q, refl)

@@ -1,7 +1,8 @@
 -- How a reading ended, and what is written then.
 use Prim.Native.Nat.{ℕ}
-use mathlib.Core.Bool.{Bool, cond}
+use mathlib.Core.Bool.{Bool, true, false, cond}
 use mathlib.Core.List.{List, []}
+use Rattle.program.specs.Outcomes.{isEnded}
 use Rattle.program.specs.declared.outcomes.State.{State}
 use Rattle.program.specs.declared.outcomes.State.the-variants.{More, Again, Ended, Failed}
 use Rattle.program.specs.declared.ends.End.{End}
@@ -9,10 +10,7 @@ use Rattle.program.specs.declared.ends.End.the-variants.{Whole, Short, F
 
 -- what stands at the end of a listing is written where the input has ended, and nothing of it after a read that failed
 abbrev pub atTheEnd : State → List ℕ → List ℕ
-atTheEnd More text = []
-atTheEnd Again text = []
-atTheEnd Ended text = text
-atTheEnd Failed text = []
+atTheEnd state text = cond (isEnded state) text []
 
 -- an input of lists or calls has ended inside one where some of its bytes had come
 abbrev pub endBy : State → Bool → End
@@ -21,8 +19,11 @@ endBy Again begun = FailedEnd
 endBy Ended begun = cond begun Short Whole
 endBy Failed begun = FailedEnd
 
+abbrev pub isShort : End → Bool
+isShort Whole = false
+isShort Short = true
+isShort FailedEnd = false
+
 -- the line on a list or call that is not whole is written where the input has ended inside it, and not after a read that failed
 abbrev pub whereShort : End → List ℕ → List ℕ
-whereShort Whole line = []
-whereShort Short line = line
-whereShort FailedEnd line = []
+whereShort end line = cond (isShort end) line []

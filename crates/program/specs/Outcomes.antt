@@ -27,6 +27,13 @@ isFailed Again = false
 isFailed Ended = false
 isFailed Failed = true
 
+-- the input has ended
+abbrev pub isEnded : State → Bool
+isEnded More = false
+isEnded Again = false
+isEnded Ended = true
+isEnded Failed = false
+
 -- nothing more is read
 abbrev pub isOver : State → Bool
 isOver More = false

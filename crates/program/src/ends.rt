@@ -3,7 +3,7 @@ use crate::outcomes::State;
 ghost use mathlib.Core.Path.{_≡_};
 ghost use mathlib.Core.Bool.{cond};
 ghost use Rattle.program.specs.declared.ends.End.the-variants.{Whole, Short};
-ghost use Rattle.program.specs.Ends.{endBy};
+ghost use Rattle.program.specs.Ends.{endBy, isShort};
 
 // Behind a whole one; inside one; or because a read failed.
 pub enum End {
@@ -31,4 +31,15 @@ fn ended(begun: bool) -> End
         return End::Short;
     }
     End::Whole
+}
+
+// Whether the input has ended inside a list or call, so that this is said.
+pub fn is_short(end: End) -> bool
+    ensures { λ r. ⌜ r ≡ isShort end ⌝ }
+{
+    match end {
+        End::Whole => false,
+        End::Short => true,
+        End::Failed => false,
+    }
 }

@@ -1,7 +1,7 @@
 // What a read or a write came to, and what follows. The system answers how many bytes it moved, or that the call failed, and then whether
 // that was because a signal came before a byte was moved.
 ghost use mathlib.Core.Path.{_≡_};
-ghost use Rattle.program.specs.Outcomes.{readOf, writeOf, isAgain, isOver, isFailed};
+ghost use Rattle.program.specs.Outcomes.{readOf, writeOf, isAgain, isOver, isFailed, isEnded};
 
 // Go on; do it again; the input has ended; it failed.
 pub enum State {
@@ -69,6 +69,18 @@ pub fn is_failed(state: State) -> bool
         State::Again => false,
         State::Ended => false,
         State::Failed => true,
+    }
+}
+
+// Whether the input has ended, so that what stands at the end is written.
+pub fn is_ended(state: State) -> bool
+    ensures { λ r. ⌜ r ≡ isEnded state ⌝ }
+{
+    match state {
+        State::More => false,
+        State::Again => false,
+        State::Ended => true,
+        State::Failed => false,
     }
 }
 

@@ -148,11 +148,10 @@ fn show_line(updated: Updated) -> bool {
 fn put_end(end: End, line: &mut [u8]) -> usize
     ensures { λ r. ⌜ Poured (now (line .entry)) 0 (whereShort end shortCallLine) (now (line .exit)) r ⌝ }
 {
-    match end {
-        End::Whole => 0,
-        End::Short => signals_output::put_short(line, 0),
-        End::Failed => 0,
+    if program::is_short(end) {
+        return signals_output::put_short(line, 0);
     }
+    0
 }
 
 fn show_end(end: End) {

@@ -146,11 +146,10 @@ fn show_refused(number: u8, lists: u64) -> bool {
 fn put_end(end: End, line: &mut [u8]) -> usize
     ensures { λ r. ⌜ Poured (now (line .entry)) 0 (whereShort end shortListLine) (now (line .exit)) r ⌝ }
 {
-    match end {
-        End::Whole => 0,
-        End::Short => desk_output::put_short(line, 0),
-        End::Failed => 0,
+    if program::is_short(end) {
+        return desk_output::put_short(line, 0);
     }
+    0
 }
 
 fn show_end(end: End) {
