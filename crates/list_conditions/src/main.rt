@@ -4,10 +4,10 @@ use libc::STDERR_FILENO;
 use libc::STDOUT_FILENO;
 use lister::Listed;
 use lister::Lister;
+use outcomes::Progress;
+use outcomes::State;
 use program::Asked;
 use program::Program;
-use program::Progress;
-use program::State;
 use streams::Source;
 use summary::Tally;
 ghost use mathlib.Core.Path.{_≡_};
@@ -15,7 +15,7 @@ ghost use Prim.Native.Nat.{_≤_};
 ghost use mathlib.Core.Bool.{cond};
 ghost use lib.ListN.{length};
 ghost use Rattle.kit.specs.Put.{Put, Poured};
-ghost use Rattle.program.specs.Ends.{atTheEnd};
+ghost use Rattle.outcomes.specs.Ends.{atTheEnd};
 ghost use Rattle.lister.specs.Pieces.{takeOf, pieceLines, MadeByPieces};
 ghost use Rattle.listing_lines.specs.Lines.{headerLine};
 ghost use Rattle.listing.specs.Listings.{endOf};
@@ -76,7 +76,7 @@ fn list(summed: bool, source: Source, name: &[u8], begun: Progress) {
         if !shown.written {
             return;
         }
-        if program::is_over(state) {
+        if outcomes::is_over(state) {
             streams::end_progress(progress);
             if show_end(state, lister) {
                 if summed {
@@ -143,7 +143,7 @@ fn put_end(state: State, lister: Lister, out: &mut [u8]) -> usize
     requires { ⌜ MadeByPieces lister × (length (now out) ≡ endRoom) ⌝ }
     ensures { λ r. ⌜ Put (now (out .entry)) 0 (atTheEnd state (endOf lister)) (now (out .exit)) r ⌝ }
 {
-    if program::is_ended(state) {
+    if outcomes::is_ended(state) {
         return listing::finish(lister, out, 0);
     }
     0
@@ -164,7 +164,7 @@ fn put_summary(state: State, tally: Tally, lister: Lister, out: &mut [u8]) -> us
     requires { ⌜ MadeByPieces lister × Countable tally × (length (now out) ≡ summaryRoom) ⌝ }
     ensures { λ r. ⌜ Put (now (out .entry)) 0 (atTheEnd state (summaryOf tally lister)) (now (out .exit)) r ⌝ }
 {
-    let ended = program::is_ended(state);
+    let ended = outcomes::is_ended(state);
     if ended {
         return summary::put(tally, lister, out, 0);
     }

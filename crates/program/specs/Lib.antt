@@ -1,9 +1,6 @@
 pub mod Answers
 pub mod Arguments
-pub mod Ends
 pub mod Failures
 pub mod Help
 pub mod Names
-pub mod Outcomes
-pub mod Progress
 pub mod Version

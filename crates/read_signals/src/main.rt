@@ -1,17 +1,17 @@
 // Reads calls and hands them to the record of signals that it owns. A call is a length in two bytes, high first, and so many bytes; the
 // length FFFFh, with nothing after it, is a call with no telegram. For each call a line goes to standard output.
 use libc::STDOUT_FILENO;
+use outcomes::End;
+use outcomes::Progress;
 use program::Asked;
-use program::End;
 use program::Program;
-use program::Progress;
 use signals::Signals;
 use signals::Updated;
 use streams::Source;
 ghost use mathlib.Core.Path.{_≡_};
 ghost use lib.ListN.{length};
 ghost use Rattle.kit.specs.Put.{Poured};
-ghost use Rattle.program.specs.Ends.{whereShort};
+ghost use Rattle.outcomes.specs.Ends.{whereShort};
 ghost use Rattle.signals.specs.Signals.{updateOf};
 ghost use Rattle.signals_output.specs.Lines.{shortCallLine};
 
@@ -85,10 +85,10 @@ fn read_call(source: Source, name: &[u8], bytes: &mut [u8]) -> Input
     let mut head = [0u8; 2];
     let first = streams::read_full(Program::ReadSignals, source, name, &mut head);
     let state = first.state;
-    if program::is_over(state) {
+    if outcomes::is_over(state) {
         return Input {
             more: false,
-            end: program::end_of(state, 0 < first.count),
+            end: outcomes::end_of(state, 0 < first.count),
             present: false,
             length: 0,
         };
@@ -109,10 +109,10 @@ fn read_call(source: Source, name: &[u8], bytes: &mut [u8]) -> Input
         &mut bytes[..length as usize],
     );
     let state = rest.state;
-    if program::is_over(state) {
+    if outcomes::is_over(state) {
         return Input {
             more: false,
-            end: program::end_of(state, true),
+            end: outcomes::end_of(state, true),
             present: false,
             length: 0,
         };
@@ -148,7 +148,7 @@ fn show_line(updated: Updated) -> bool {
 fn put_end(end: End, line: &mut [u8]) -> usize
     ensures { λ r. ⌜ Poured (now (line .entry)) 0 (whereShort end shortCallLine) (now (line .exit)) r ⌝ }
 {
-    if program::is_short(end) {
+    if outcomes::is_short(end) {
         return signals_output::put_short(line, 0);
     }
     0

@@ -3,16 +3,16 @@
 use desk::Desk;
 use libc::STDERR_FILENO;
 use libc::STDOUT_FILENO;
+use outcomes::End;
+use outcomes::Progress;
 use program::Asked;
-use program::End;
 use program::Program;
-use program::Progress;
 use streams::Source;
 use wire::Verdict;
 ghost use mathlib.Core.Path.{_≡_};
 ghost use lib.ListN.{length};
 ghost use Rattle.kit.specs.Put.{Poured};
-ghost use Rattle.program.specs.Ends.{whereShort};
+ghost use Rattle.outcomes.specs.Ends.{whereShort};
 ghost use Rattle.desk.specs.Desks.{baseRest, acceptOf, Made};
 ghost use Rattle.desk_output.specs.Outputs.{shortListLine};
 
@@ -83,10 +83,10 @@ fn read_list(source: Source, name: &[u8], bytes: &mut [u8]) -> Input
     let mut head = [0u8; 2];
     let first = streams::read_full(Program::RunDesk, source, name, &mut head);
     let state = first.state;
-    if program::is_over(state) {
+    if outcomes::is_over(state) {
         return Input {
             more: false,
-            end: program::end_of(state, 0 < first.count),
+            end: outcomes::end_of(state, 0 < first.count),
             length: 0,
         };
     }
@@ -98,10 +98,10 @@ fn read_list(source: Source, name: &[u8], bytes: &mut [u8]) -> Input
         &mut bytes[..length as usize],
     );
     let state = rest.state;
-    if program::is_over(state) {
+    if outcomes::is_over(state) {
         return Input {
             more: false,
-            end: program::end_of(state, true),
+            end: outcomes::end_of(state, true),
             length: 0,
         };
     }
@@ -146,7 +146,7 @@ fn show_refused(number: u8, lists: u64) -> bool {
 fn put_end(end: End, line: &mut [u8]) -> usize
     ensures { λ r. ⌜ Poured (now (line .entry)) 0 (whereShort end shortListLine) (now (line .exit)) r ⌝ }
 {
-    if program::is_short(end) {
+    if outcomes::is_short(end) {
         return desk_output::put_short(line, 0);
     }
     0

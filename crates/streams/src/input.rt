@@ -4,11 +4,11 @@ use crate::telling::is_interrupted;
 use crate::telling::tell;
 use libc::STDERR_FILENO;
 use libc::STDIN_FILENO;
+use outcomes::Outcome;
+use outcomes::State;
 use program::Asked;
 use program::Doing;
-use program::Outcome;
 use program::Program;
-use program::State;
 ghost use Rattle.io.specs.Counts.{Counts};
 
 // The descriptor, below zero where the input could not be opened; whether it is standard input; and how many bytes its name has.
@@ -57,7 +57,7 @@ fn read_once(descriptor: i32, buffer: &mut [u8]) -> Outcome
     let answer = libc::read(descriptor, buffer);
     let interrupted = is_interrupted();
     let count = io::count(answer, buffer);
-    let state = program::read_of(count, answer < 0, interrupted);
+    let state = outcomes::read_of(count, answer < 0, interrupted);
     Outcome { count, state }
 }
 
@@ -70,7 +70,7 @@ fn read_on(descriptor: i32, buffer: &mut [u8]) -> Outcome
         turns += 1;
         let outcome = read_once(descriptor, buffer);
         let state = outcome.state;
-        if !program::is_again(state) {
+        if !outcomes::is_again(state) {
             return outcome;
         }
     }
@@ -95,7 +95,7 @@ pub fn read(program: Program, source: Source, name: &[u8], buffer: &mut [u8]) ->
 {
     let outcome = read_on(source.descriptor, buffer);
     let state = outcome.state;
-    if program::is_failed(state) {
+    if outcomes::is_failed(state) {
         tell_read(program, source, name);
     }
     outcome
@@ -114,7 +114,7 @@ pub fn read_full(program: Program, source: Source, name: &[u8], buffer: &mut [u8
         }
         let outcome = read(program, source, name, &mut buffer[done..]);
         let state = outcome.state;
-        if program::is_over(state) {
+        if outcomes::is_over(state) {
             return Outcome { count: done, state };
         }
         done += outcome.count;

@@ -2,8 +2,8 @@
 use crate::telling::is_interrupted;
 use crate::telling::tell;
 use libc::STDOUT_FILENO;
+use outcomes::Outcome;
 use program::Doing;
-use program::Outcome;
 use program::Program;
 ghost use Rattle.io.specs.Counts.{Counts};
 
@@ -14,7 +14,7 @@ fn write_once(descriptor: i32, bytes: &[u8]) -> Outcome
     let answer = libc::write(descriptor, bytes);
     let interrupted = is_interrupted();
     let count = io::count(answer, bytes);
-    let state = program::write_of(count, answer < 0, interrupted);
+    let state = outcomes::write_of(count, answer < 0, interrupted);
     Outcome { count, state }
 }
 
@@ -29,7 +29,7 @@ pub fn write(program: Program, descriptor: i32, bytes: &[u8]) -> bool {
         }
         let outcome = write_once(descriptor, &bytes[done..]);
         let state = outcome.state;
-        if program::is_failed(state) {
+        if outcomes::is_failed(state) {
             tell_write(program, descriptor);
             return false;
         }

@@ -4,8 +4,8 @@ use libc::SEEK_CUR;
 use libc::SEEK_END;
 use libc::SEEK_SET;
 use libc::STDERR_FILENO;
+use outcomes::Progress;
 use program::Asked;
-use program::Progress;
 
 // Whether it is shown: it was asked for, error output is a terminal, and how many bytes the input still has is known.
 pub fn progress_of(asked: Asked, source: Source) -> Progress {

@@ -2,7 +2,7 @@
 use native.Mathlib.Omega.{arith}
 use Rattle.listing.specs.Listings.{endOf}
 use Rattle.listing_room.specs.Rooms.{endRoom}
-use Rattle.program.proofs.Lengths.{at-the-end-short}
+use Rattle.outcomes.proofs.Lengths.{at-the-end-short}
 use Rattle.listing_room.proofs.Room.{end-room, put-counts}
 use borrow.Author.Needs.{needs}
 use Rattle.list_conditions.proofs.show_end.Statement.{statement}

@@ -2,7 +2,7 @@
 use native.Mathlib.Omega.{arith}
 use Prim.Native.Nat.{_≤_}
 use lib.ListN.{length}
-use Rattle.program.proofs.Lengths.{at-the-end-short}
+use Rattle.outcomes.proofs.Lengths.{at-the-end-short}
 use Rattle.lister.specs.Pieces.{MadeByPieces}
 use Rattle.lister.specs.declared.Lister.{Lister}
 use Rattle.summary.specs.Rooms.{summaryRoom, Countable}

@@ -2,8 +2,8 @@
 use crate::outcomes::State;
 ghost use mathlib.Core.Path.{_≡_};
 ghost use mathlib.Core.Bool.{cond};
-ghost use Rattle.program.specs.declared.ends.End.the-variants.{Whole, Short};
-ghost use Rattle.program.specs.Ends.{endBy, isShort};
+ghost use Rattle.outcomes.specs.declared.ends.End.the-variants.{Whole, Short};
+ghost use Rattle.outcomes.specs.Ends.{endBy, isShort};
 
 // Behind a whole one; inside one; or because a read failed.
 pub enum End {

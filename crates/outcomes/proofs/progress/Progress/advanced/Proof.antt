@@ -1,7 +1,7 @@
 -- `advanced`: the counts of one read more.
 use borrow.Author.Needs.{needs}
-use Rattle.program.proofs.progress.Progress.advanced.Statement.{statement}
-use Rattle.program.proofs.progress.Progress.advanced.Tie as tie
+use Rattle.outcomes.proofs.progress.Progress.advanced.Statement.{statement}
+use Rattle.outcomes.proofs.progress.Progress.advanced.Tie as tie
 
 more-requires : tie.Need-more-requires
 more-requires c κs = search needs

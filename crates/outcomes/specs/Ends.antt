@@ -2,11 +2,11 @@
 use Prim.Native.Nat.{ℕ}
 use mathlib.Core.Bool.{Bool, true, false, cond}
 use mathlib.Core.List.{List, []}
-use Rattle.program.specs.Outcomes.{isEnded}
-use Rattle.program.specs.declared.outcomes.State.{State}
-use Rattle.program.specs.declared.outcomes.State.the-variants.{More, Again, Ended, Failed}
-use Rattle.program.specs.declared.ends.End.{End}
-use Rattle.program.specs.declared.ends.End.the-variants.{Whole, Short, Failed as FailedEnd}
+use Rattle.outcomes.specs.Outcomes.{isEnded}
+use Rattle.outcomes.specs.declared.outcomes.State.{State}
+use Rattle.outcomes.specs.declared.outcomes.State.the-variants.{More, Again, Ended, Failed}
+use Rattle.outcomes.specs.declared.ends.End.{End}
+use Rattle.outcomes.specs.declared.ends.End.the-variants.{Whole, Short, Failed as FailedEnd}
 
 -- what stands at the end of a listing is written where the input has ended, and nothing of it after a read that failed
 abbrev pub atTheEnd : State → List ℕ → List ℕ

@@ -1,7 +1,7 @@
 // What a read or a write came to, and what follows. The system answers how many bytes it moved, or that the call failed, and then whether
 // that was because a signal came before a byte was moved.
 ghost use mathlib.Core.Path.{_≡_};
-ghost use Rattle.program.specs.Outcomes.{readOf, writeOf, isAgain, isOver, isFailed, isEnded};
+ghost use Rattle.outcomes.specs.Outcomes.{readOf, writeOf, isAgain, isOver, isFailed, isEnded};
 
 // Go on; do it again; the input has ended; it failed.
 pub enum State {

@@ -1,6 +1,6 @@
 -- `is_due`: only where it is shown.
-use Rattle.program.proofs.progress.Progress.is_due.Statement.{statement}
-use Rattle.program.proofs.progress.Progress.is_due.Tie as tie
+use Rattle.outcomes.proofs.progress.Progress.is_due.Statement.{statement}
+use Rattle.outcomes.proofs.progress.Progress.is_due.Tie as tie
 
 returns : tie.Need-returns
 returns c = simp (c .before .if1 .taken)

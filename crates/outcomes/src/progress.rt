@@ -2,7 +2,7 @@
 ghost use mathlib.Core.Path.{_≡_};
 ghost use Prim.Native.Nat.{_+_, min};
 ghost use Rattle.kit.specs.Put.{Poured};
-ghost use Rattle.program.specs.Progress.{mostCounted, progressOf, advancedBy, isDue, progressLine};
+ghost use Rattle.outcomes.specs.Progress.{mostCounted, progressOf, advancedBy, isDue, progressLine};
 
 // Whether it is shown at all, how many bytes the input has, how many were read, and how many reads ago the line was written, modulo 128.
 pub struct Progress {

@@ -6,7 +6,7 @@ use mathlib.Core.List.{List, _∷_, _++_}
 use lib.Dec.{eqb}
 use Rattle.kit.specs.Text.{ascii}
 use Rattle.text.specs.Decimals.{decimal}
-use Rattle.program.specs.declared.progress.Progress.{Progress}
+use Rattle.outcomes.specs.declared.progress.Progress.{Progress}
 
 -- a count of bytes stays at the greatest number that it can hold
 abbrev pub mostCounted : ℕ

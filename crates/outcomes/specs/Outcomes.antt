@@ -2,8 +2,8 @@
 use Prim.Native.Nat.{ℕ}
 use mathlib.Core.Bool.{Bool, true, false, cond}
 use lib.Dec.{ltb}
-use Rattle.program.specs.declared.outcomes.State.{State}
-use Rattle.program.specs.declared.outcomes.State.the-variants.{More, Again, Ended, Failed}
+use Rattle.outcomes.specs.declared.outcomes.State.{State}
+use Rattle.outcomes.specs.declared.outcomes.State.the-variants.{More, Again, Ended, Failed}
 
 -- a read: some bytes came; or it failed, and is made again where a signal came before a byte; or there are no more
 abbrev pub readOf : ℕ → Bool → Bool → State

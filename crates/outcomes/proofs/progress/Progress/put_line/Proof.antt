@@ -1,9 +1,9 @@
 -- `put_line`: both counts.
 use Rattle.kit.proofs.Put.{poured-then}
-use Rattle.program.specs.Progress.{progressLine}
+use Rattle.outcomes.specs.Progress.{progressLine}
 use borrow.Author.Needs.{needs}
-use Rattle.program.proofs.progress.Progress.put_line.Statement.{statement}
-use Rattle.program.proofs.progress.Progress.put_line.Tie as tie
+use Rattle.outcomes.proofs.progress.Progress.put_line.Statement.{statement}
+use Rattle.outcomes.proofs.progress.Progress.put_line.Tie as tie
 
 put-byte-requires : tie.Need-put-byte-requires
 put-byte-requires c κs = search needs
