@@ -1,5 +1,6 @@
 // A recording of telegrams, listed piece by piece. A piece is any bytes: a telegram may begin in one piece and end in a later one. What
 // has no room in the lent buffer is dropped, and the answer is the place past what was put.
+use listener::Answer;
 use listener::Listener;
 use telegram::LENGTH;
 ghost use Prim.Native.Nat.{_+_, _-_, _*_, _/_, _≤_, min};
@@ -10,7 +11,8 @@ ghost use Rattle.kit.specs.Put.{Poured};
 ghost use mathlib.Core.Bool.{cond};
 ghost use mathlib.Core.Logic.{_⊎_};
 ghost use lib.Dec.{eqb};
-ghost use Rattle.listener.specs.Lent.{listenerIn};
+ghost use Rattle.listener.specs.Lent.{listenerIn, HeardIn};
+ghost use Rattle.listener.specs.Listeners.{carries};
 ghost use Rattle.listing_tables.specs.Tables.{heardLines};
 ghost use Rattle.lister.specs.Hearings.{heardBy, linesFor};
 ghost use Rattle.lister.specs.Pieces.{mostTables, begunLister, keeping, takeOf, pieceLines, MadeByPieces};
@@ -31,10 +33,11 @@ pub struct Listed {
     pub at: usize,
 }
 
-// How many tables were taken after one telegram more, and the place past its lines.
+// How many tables were taken after one telegram more, the place past its lines, and what it was.
 struct Next {
     tables: u64,
     at: usize,
+    answer: Answer,
 }
 
 impl Lister {
@@ -95,12 +98,27 @@ fn hear_next(
     listing: &mut [u8],
     at: usize,
 ) -> Next
-    ensures { λ r. ⌜ HeardNext (heardBy (listenerIn (now (memory .entry))) (now (telegram .entry))) tables (listenerIn (now (memory .exit))) (r .tables) × Poured (now (listing .entry)) at (heardLines (heardBy (listenerIn (now (memory .entry))) (now (telegram .entry)))) (now (listing .exit)) (r .at) ⌝ }
+    ensures { λ r. ⌜ HeardNext (heardBy (listenerIn (now (memory .entry))) (now (telegram .entry))) tables (listenerIn (now (memory .exit))) (r .tables) × Poured (now (listing .entry)) at (heardLines (heardBy (listenerIn (now (memory .entry))) (now (telegram .entry)))) (now (listing .exit)) (r .at) × HeardIn carries (now (memory .entry)) (now (telegram .entry)) (r .answer) (now (memory .exit)) ⌝ }
 {
     let answer = listener::hear_in(memory, telegram);
     let tables = tally(tables, listing_tables::tables_of(answer));
     let next = listing_tables::put_heard(answer, memory, listing, at);
-    Next { tables, at: next }
+    Next {
+        tables,
+        at: next,
+        answer,
+    }
+}
+
+// Hears one telegram in lent memory, as `listener::hear_in` does, and lists nothing. Who counts telegrams beside a listing hears them here:
+// then a program has one place where a telegram is heard, and its compiler opens it there, as it does where nothing is counted.
+pub fn hear_in(memory: &mut [u8; 310], telegram: &[u8]) -> Answer
+    ensures { λ r. ⌜ HeardIn carries (now (memory .entry)) (now (telegram .entry)) r (now (memory .exit)) ⌝ }
+{
+    let mut lines = [0u8; 1];
+    let next = hear_next(memory, 0, telegram, &mut lines, 1);
+    let answer = next.answer;
+    answer
 }
 
 // Hears one telegram; nothing is left of it.

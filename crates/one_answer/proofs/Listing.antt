@@ -1,5 +1,6 @@
 -- One answer of the listing, and those that other languages call: each contract admits one (C-04).
 use mathlib.Core.Path.{refl, ap}
+use Rattle.claims.proofs.Demand1.{demand1}
 use Rattle.kit.proofs.Cases.{given}
 use Rattle.kit.specs.Contracts.{OneAnswer}
 use Rattle.kit.proofs.Contracts.{agree, agree-poured}
@@ -56,6 +57,10 @@ lister-take κs handed answer other lasts others p q =
     let put = agree-poured (p .1) (q .1) in
     let next = agree (p .0) (q .0) in
     ((λ i. record { lister = next i; at = put .0 i }), ap (λ bytes. (tt, (tt, (bytes, (tt, tt))))) (put .1))
+
+-- the contract of `listener::hear_in`, word for word
+pub lister-hear-in : OneAnswer lister.hear_in.ended lister.hear_in.Reads.Learnt
+lister-hear-in = demand1 .telegrams-lent .defined
 
 -- ---- hearing_runs
 

@@ -155,7 +155,7 @@ fn hear_next(tally: Tally, memory: &mut [u8; 310], telegram: &[u8]) -> Tally
     ensures { λ r. ⌜ (r ≡ counted tally (heardBy (listenerIn (now (memory .entry))) (now (telegram .entry)) .told))
         × (listenerIn (now (memory .exit)) ≡ heardBy (listenerIn (now (memory .entry))) (now (telegram .entry)) .listener) ⌝ }
 {
-    let answer = listener::hear_in(memory, telegram);
+    let answer = lister::hear_in(memory, telegram);
     tally.count(answer)
 }
 

@@ -38,6 +38,7 @@ returns c =
         counts = sum .tally .ensures ∙ ap (λ n. min (a .tables + n) mostTables) (one .tables-of .ensures ∙ ap (λ h. tablesOf (h .told)) meant);
       },
       poured-as (sym (ap heardLines meant)) (put .put-heard .ensures),
+      heard .hear-in .ensures,
     )
 
 pub hear-next-spec : {M : Type 1} → statement M
