@@ -1,8 +1,7 @@
 -- How far a reading is.
 use Prim.Native.Nat.{ℕ, _+_, _%_, min}
-use Prim.Native.Char.{code}
 use mathlib.Core.Bool.{Bool, _&&_}
-use mathlib.Core.List.{List, _∷_, _++_}
+use mathlib.Core.List.{List, _++_}
 use lib.Dec.{eqb}
 use Rattle.kit.specs.Text.{ascii}
 use Rattle.text.specs.Decimals.{decimal}
@@ -34,6 +33,6 @@ advancedBy progress count =
 abbrev pub isDue : Progress → Bool
 isDue progress = progress .shown && eqb (progress .reads) 0
 
--- the line, in the place of the one before it
+-- the line, and a return to its beginning, so that what is written next stands in its place
 unfoldable pub progressLine : Progress → List ℕ
-progressLine progress = code "\r" ∷ (decimal (progress .done) ++ (ascii " of " ++ (decimal (progress .size) ++ ascii " bytes")))
+progressLine progress = decimal (progress .done) ++ (ascii " of " ++ (decimal (progress .size) ++ ascii " bytes\r"))

@@ -50,15 +50,14 @@ impl Progress {
         false
     }
 
-    // `N of M bytes`, after a return to the beginning of the line.
+    // `N of M bytes`, and a return to the beginning of the line, so that what is written next stands in its place.
     pub fn put_line(self, out: &mut [u8], at: usize) -> usize
         ensures { λ r. ⌜ Poured (now (out .entry)) at (progressLine self) (now (out .exit)) r ⌝ }
     {
-        let second = text::put_byte(out, at, b'\r');
-        let third = text::put_decimal(out, second, self.done);
-        let fourth = text::put_words(out, third, b" of ");
-        let fifth = text::put_decimal(out, fourth, self.size);
-        text::put_words(out, fifth, b" bytes")
+        let second = text::put_decimal(out, at, self.done);
+        let third = text::put_words(out, second, b" of ");
+        let fourth = text::put_decimal(out, third, self.size);
+        text::put_words(out, fourth, b" bytes\r")
     }
 }
 

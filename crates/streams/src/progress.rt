@@ -7,7 +7,7 @@ use libc::STDERR_FILENO;
 use outcomes::Progress;
 use program::Asked;
 
-// Whether it is shown: it was asked for, error output is a terminal, and how many bytes the input still has is known.
+// Whether it is shown: it was asked for, error output is a terminal, and how many bytes the input still has is known and not 0.
 pub fn progress_of(asked: Asked, source: Source) -> Progress {
     if !asked.progress {
         return Progress::of(false, 0);
@@ -20,7 +20,11 @@ pub fn progress_of(asked: Asked, source: Source) -> Progress {
         return Progress::of(false, 0);
     }
     let end = libc::lseek(source.descriptor, 0, SEEK_END);
-    libc::lseek(source.descriptor, from, SEEK_SET);
+    let back = libc::lseek(source.descriptor, from, SEEK_SET);
+    if back != from {
+        // the place is lost: no byte may be read from another one, so that the next read must fail, which is told
+        libc::close(source.descriptor);
+    }
     if end < 0 {
         return Progress::of(false, 0);
     }
@@ -28,7 +32,7 @@ pub fn progress_of(asked: Asked, source: Source) -> Progress {
 }
 
 fn between(from: u64, end: u64) -> Progress {
-    if end < from {
+    if end <= from {
         return Progress::of(false, 0);
     }
     Progress::of(true, end - from)
@@ -43,9 +47,12 @@ pub fn went_on(progress: Progress, count: usize) -> Progress {
     next
 }
 
-// The last line, and its end.
+// The last line, and its end, where something was read.
 pub fn end_progress(progress: Progress) {
-    if progress.shown {
+    if !progress.shown {
+        return;
+    }
+    if progress.done > 0 {
         show(progress);
         io::write_all(STDERR_FILENO, b"\n");
     }

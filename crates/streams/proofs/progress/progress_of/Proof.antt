@@ -45,6 +45,9 @@ lseek-requires-2 c κs = search needs
 lseek-requires-3 : tie.Need-lseek-requires-3
 lseek-requires-3 c κs = search needs
 
+close-requires : tie.Need-close-requires
+close-requires c κs = search needs
+
 of-requires-4 : tie.Need-of-requires-4
 of-requires-4 c κs = search needs
 
@@ -53,15 +56,15 @@ returns-4 c = search needs
 
 cast-between : tie.Need-cast-between
 cast-between c =
-    let position = toZ w64 (ofZ w64 (c .before .before .before .before .before .before .lseek .result)) in
+    let position = toZ w64 (ofZ w64 (c .before .before .before .before .before .before .before .lseek .result)) in
     let sound : SFits w64 position = search needs in
-    (not-below position (c .before .before .before .before .before .if3 .left), fits-natAbs tt sound)
+    (not-below position (c .before .before .before .before .before .before .if3 .left), fits-natAbs tt sound)
 
 cast-between-2 : tie.Need-cast-between-2
 cast-between-2 c =
-    let position = toZ w64 (ofZ w64 (c .before .before .before .lseek2 .result)) in
+    let position = toZ w64 (ofZ w64 (c .before .before .before .before .lseek2 .result)) in
     let sound : SFits w64 position = search needs in
-    (not-below position (c .if4 .left), fits-natAbs tt sound)
+    (not-below position (c .if5 .left), fits-natAbs tt sound)
 
 between-requires : tie.Need-between-requires
 between-requires c κs = search needs
@@ -83,6 +86,7 @@ progress-of-spec =
     returns-3
     lseek-requires-2
     lseek-requires-3
+    close-requires
     of-requires-4
     returns-4
     cast-between

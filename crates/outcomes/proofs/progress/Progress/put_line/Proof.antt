@@ -5,9 +5,6 @@ use borrow.Author.Needs.{needs}
 use Rattle.outcomes.proofs.progress.Progress.put_line.Statement.{statement}
 use Rattle.outcomes.proofs.progress.Progress.put_line.Tie as tie
 
-put-byte-requires : tie.Need-put-byte-requires
-put-byte-requires c κs = search needs
-
 put-decimal-requires : tie.Need-put-decimal-requires
 put-decimal-requires c κs = search needs
 
@@ -31,13 +28,12 @@ same-length c = search needs
 
 returns : tie.Need-returns
 unfolding progressLine
-returns c = poured-then (c .before .before .before .before .before .before .before .before .before .before .before .before .before .before .before .before .before .before .before .before .put-byte .ensures) (poured-then (c .before .before .before .before .before .before .before .before .before .before .before .before .before .before .before .before .put-decimal .ensures) (poured-then (c .before .before .before .before .before .before .before .before .before .before .before .put-words .ensures) (poured-then (c .before .before .before .before .before .before .before .put-decimal2 .ensures) (c .before .before .put-words2 .ensures))))
+returns c = poured-then (c .before .before .before .before .before .before .before .before .before .before .before .before .before .before .before .before .put-decimal .ensures) (poured-then (c .before .before .before .before .before .before .before .before .before .before .before .put-words .ensures) (poured-then (c .before .before .before .before .before .before .before .put-decimal2 .ensures) (c .before .before .put-words2 .ensures)))
 
 pub put-line-spec : {M : Type 1} → statement M
 put-line-spec =
     tie.close
     (tie.spec
-    put-byte-requires
     put-decimal-requires
     slice-aggregate-put-words
     put-words-requires
