@@ -1,6 +1,7 @@
 /*
  * What other languages call of the Bravolith track conditions box. The functions are proved: for every input each puts exactly
- * the bytes that its definition gives, and nothing else. docs/FORMATS.md says byte by byte what inputs and outputs are.
+ * the bytes that its definition gives, and nothing else. docs/FORMATS.md, installed as share/doc/bravolith/FORMATS.md, says byte by
+ * byte what inputs and outputs are.
  *
  * Link libexports.a (rt staticlib exports), or the same library as it is installed, libbravolith.a (tools/install PREFIX). It is for
  * x86-64 Linux: ELF, the calling convention of System V, and no instruction beyond those that every x86-64 processor has. Of a C
@@ -52,8 +53,8 @@ size_t bravolith_list_length(const uint8_t *recording, size_t recording_length);
 /*
  * The lines that such a listing has for telegrams of any length, 0 to 65,535 bytes, each after its length in two bytes, high first,
  * which one fresh listener hears: for each table taken a line and one for each condition, "refused N" for each refused telegram,
- * nothing for the others, and "short telegram" where the input ends inside a telegram. BRAVOLITH_LINES_ROOM(telegrams) bytes, and 15
- * more, are always enough.
+ * nothing for the others, and "short telegram" where the input ends inside a telegram. BRAVOLITH_LINES_ROOM(n) + 15 bytes for n
+ * telegrams are always enough.
  */
 size_t bravolith_hear(const uint8_t *telegrams, size_t telegrams_length, uint8_t *out, size_t out_length);
 

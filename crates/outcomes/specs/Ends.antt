@@ -12,7 +12,8 @@ use Rattle.outcomes.specs.declared.ends.End.the-variants.{Whole, Short, 
 abbrev pub atTheEnd : State → List ℕ → List ℕ
 atTheEnd state text = cond (isEnded state) text []
 
--- an input of lists or calls has ended inside one where some of its bytes had come
+-- an input of lists or calls has ended inside one where some of its bytes had come. A reading that is not over has no end; it is called
+-- failed, so that nothing is written
 abbrev pub endBy : State → Bool → End
 endBy More begun = FailedEnd
 endBy Again begun = FailedEnd

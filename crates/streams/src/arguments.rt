@@ -20,7 +20,7 @@ pub fn asked(program: Program) -> Asked {
     asked
 }
 
-// With one argument more. One that is too long to be a path is not understood.
+// With one argument more. One that is too long for a path is told as one that could not be taken.
 fn with_argument(program: Program, asked: Asked, i: usize) -> Asked {
     let mut word = [0u8; 4096];
     let n = os::arg(i, &mut word);

@@ -1,5 +1,5 @@
 // The calls of C that all programs share: arguments, the input, reads and writes, and the line on a call that failed. What is read, and
-// whether a call fails, no contract can say; what follows from it is decided by `program`.
+// whether a call fails, no contract can say; what follows from it is decided by `outcomes`, and what is said by `program`.
 mod arguments;
 mod input;
 mod output;

@@ -4,12 +4,13 @@
 //! definition gives, and nothing else. `include/bravolith.h` says the same for C,
 //! and `docs/FORMATS.md` what inputs and outputs are, byte by byte.
 //!
-//! All but [`list_length`], [`write()`] and [`word`] take an input and a lent
-//! buffer. The buffer gets the first bytes of the output and keeps its bytes past
-//! them. The answer is how many bytes were put: the length of the whole output or
-//! of the buffer, whichever is less. So an answer that is less than the buffer's
-//! length says that all of it is there; of a listing, [`list_length`] tells a
-//! buffer that fits exactly from one that is too short.
+//! All but [`list_length`] and [`word`] take an input and a lent buffer; all of
+//! these but [`write()`] put the output's first bytes into the buffer, as far as
+//! the buffer reaches, and leave the bytes past them alone. The answer is how many
+//! bytes were put: the length of the whole output or of the buffer, whichever is
+//! less. So an answer that is less than the buffer's length says that all of it is
+//! there; of a listing, [`list_length`] tells a buffer that fits exactly from one
+//! that is too short.
 //!
 //! Each call takes a whole input and begins with a fresh desk, listener or
 //! record. Nothing is kept between two calls, and none fails.
