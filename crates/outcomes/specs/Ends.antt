@@ -15,16 +15,17 @@ atTheEnd state text = cond (isEnded state) text []
 -- an input of lists or calls has ended inside one where some of its bytes had come. A reading that is not over has no end; it is called
 -- failed, so that nothing is written
 abbrev pub endBy : State → Bool → End
-endBy More begun = FailedEnd
-endBy Again begun = FailedEnd
-endBy Ended begun = cond begun Short Whole
-endBy Failed begun = FailedEnd
+endBy More some = FailedEnd
+endBy Again some = FailedEnd
+endBy Ended some = cond some Short Whole
+endBy Failed some = FailedEnd
 
-abbrev pub isShort : End → Bool
-isShort Whole = false
-isShort Short = true
-isShort FailedEnd = false
+-- it has ended inside one
+abbrev pub endsInside : End → Bool
+endsInside Whole = false
+endsInside Short = true
+endsInside FailedEnd = false
 
 -- the line on a list or call that is not whole is written where the input has ended inside it, and not after a read that failed
 abbrev pub whereShort : End → List ℕ → List ℕ
-whereShort end line = cond (isShort end) line []
+whereShort end line = cond (endsInside end) line []

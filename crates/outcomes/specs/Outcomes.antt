@@ -6,12 +6,12 @@ use Rattle.outcomes.specs.declared.outcomes.State.{State}
 use Rattle.outcomes.specs.declared.outcomes.State.the-variants.{More, Again, Ended, Failed}
 
 -- a read: some bytes came; or it failed, and is made again where a signal came before a byte; or there are no more
-abbrev pub readOf : ℕ → Bool → Bool → State
-readOf count failed interrupted = cond (ltb 0 count) More (cond failed (cond interrupted Again Failed) Ended)
+abbrev pub afterRead : ℕ → Bool → Bool → State
+afterRead count failed interrupted = cond (ltb 0 count) More (cond failed (cond interrupted Again Failed) Ended)
 
 -- a write of some bytes: some were taken; or a signal came before; or it failed, as one that takes nothing
-abbrev pub writeOf : ℕ → Bool → Bool → State
-writeOf count failed interrupted = cond (ltb 0 count) More (cond failed (cond interrupted Again Failed) Failed)
+abbrev pub afterWrite : ℕ → Bool → Bool → State
+afterWrite count failed interrupted = cond (ltb 0 count) More (cond failed (cond interrupted Again Failed) Failed)
 
 -- the call is made again
 abbrev pub isAgain : State → Bool

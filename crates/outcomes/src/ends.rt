@@ -3,7 +3,7 @@ use crate::outcomes::State;
 ghost use mathlib.Core.Path.{_≡_};
 ghost use mathlib.Core.Bool.{cond};
 ghost use Rattle.outcomes.specs.declared.ends.End.the-variants.{Whole, Short};
-ghost use Rattle.outcomes.specs.Ends.{endBy, isShort};
+ghost use Rattle.outcomes.specs.Ends.{endBy, endsInside};
 
 // Behind a whole one; inside one; or because a read failed.
 pub enum End {
@@ -35,7 +35,7 @@ fn ended(begun: bool) -> End
 
 // Whether the input has ended inside a list or call, so that this is said.
 pub fn is_short(end: End) -> bool
-    ensures { λ r. ⌜ r ≡ isShort end ⌝ }
+    ensures { λ r. ⌜ r ≡ endsInside end ⌝ }
 {
     match end {
         End::Whole => false,

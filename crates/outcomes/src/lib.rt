@@ -6,7 +6,7 @@ mod progress;
 pub use ends::End;
 pub use ends::end_of;
 pub use ends::is_short;
-pub use outcomes::Outcome;
+pub use outcomes::Moved;
 pub use outcomes::State;
 pub use outcomes::is_again;
 pub use outcomes::is_ended;

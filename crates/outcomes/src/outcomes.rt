@@ -1,7 +1,7 @@
 // What a read or a write came to, and what follows. The system answers how many bytes it moved, or that the call failed, and then whether
 // that was because a signal came before a byte was moved.
 ghost use mathlib.Core.Path.{_≡_};
-ghost use Rattle.outcomes.specs.Outcomes.{readOf, writeOf, isAgain, isOver, isFailed, isEnded};
+ghost use Rattle.outcomes.specs.Outcomes.{afterRead, afterWrite, isAgain, isOver, isFailed, isEnded};
 
 // Go on; do it again; the input has ended; it failed.
 pub enum State {
@@ -12,14 +12,14 @@ pub enum State {
 }
 
 // How many bytes were moved, and what follows.
-pub struct Outcome {
+pub struct Moved {
     pub count: usize,
     pub state: State,
 }
 
 // What follows a read that moved so many bytes.
 pub fn read_of(count: usize, failed: bool, interrupted: bool) -> State
-    ensures { λ r. ⌜ r ≡ readOf count failed interrupted ⌝ }
+    ensures { λ r. ⌜ r ≡ afterRead count failed interrupted ⌝ }
 {
     if 0 < count {
         return State::More;
@@ -35,7 +35,7 @@ pub fn read_of(count: usize, failed: bool, interrupted: bool) -> State
 
 // What follows a write of at least one byte. One that takes nothing has failed.
 pub fn write_of(count: usize, failed: bool, interrupted: bool) -> State
-    ensures { λ r. ⌜ r ≡ writeOf count failed interrupted ⌝ }
+    ensures { λ r. ⌜ r ≡ afterWrite count failed interrupted ⌝ }
 {
     if 0 < count {
         return State::More;

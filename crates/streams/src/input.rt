@@ -4,7 +4,7 @@ use crate::telling::is_interrupted;
 use crate::telling::tell;
 use libc::STDERR_FILENO;
 use libc::STDIN_FILENO;
-use outcomes::Outcome;
+use outcomes::Moved;
 use outcomes::State;
 use program::Asked;
 use program::Doing;
@@ -51,18 +51,18 @@ pub fn say_awaiting(program: Program, source: Source) {
 }
 
 // One read.
-fn read_once(descriptor: i32, buffer: &mut [u8]) -> Outcome
+fn read_once(descriptor: i32, buffer: &mut [u8]) -> Moved
     ensures { λ r. ⌜ Counts (r .count) (now (buffer .exit)) ⌝ }
 {
     let answer = libc::read(descriptor, buffer);
     let interrupted = is_interrupted();
     let count = io::count(answer, buffer);
     let state = outcomes::read_of(count, answer < 0, interrupted);
-    Outcome { count, state }
+    Moved { count, state }
 }
 
 // One read, made again as often as it is interrupted.
-fn read_on(descriptor: i32, buffer: &mut [u8]) -> Outcome
+fn read_on(descriptor: i32, buffer: &mut [u8]) -> Moved
     ensures { λ r. ⌜ Counts (r .count) (now (buffer .exit)) ⌝ }
 {
     let mut turns: u64 = 0;
@@ -74,7 +74,7 @@ fn read_on(descriptor: i32, buffer: &mut [u8]) -> Outcome
             return outcome;
         }
     }
-    Outcome {
+    Moved {
         count: 0,
         state: State::Failed,
     }
@@ -90,7 +90,7 @@ fn tell_read(program: Program, source: Source, name: &[u8]) {
 }
 
 // Reads what there is, up to the buffer's length. A read that fails is told.
-pub fn read(program: Program, source: Source, name: &[u8], buffer: &mut [u8]) -> Outcome
+pub fn read(program: Program, source: Source, name: &[u8], buffer: &mut [u8]) -> Moved
     ensures { λ r. ⌜ Counts (r .count) (now (buffer .exit)) ⌝ }
 {
     let outcome = read_on(source.descriptor, buffer);
@@ -102,7 +102,7 @@ pub fn read(program: Program, source: Source, name: &[u8], buffer: &mut [u8]) ->
 }
 
 // Reads until the buffer is full, the input ends or a read fails, which is told. The state is `More` where the buffer is full.
-pub fn read_full(program: Program, source: Source, name: &[u8], buffer: &mut [u8]) -> Outcome
+pub fn read_full(program: Program, source: Source, name: &[u8], buffer: &mut [u8]) -> Moved
     ensures { λ r. ⌜ Counts (r .count) (now (buffer .exit)) ⌝ }
 {
     let mut done: usize = 0;
@@ -115,11 +115,11 @@ pub fn read_full(program: Program, source: Source, name: &[u8], buffer: &mut [u8
         let outcome = read(program, source, name, &mut buffer[done..]);
         let state = outcome.state;
         if outcomes::is_over(state) {
-            return Outcome { count: done, state };
+            return Moved { count: done, state };
         }
         done += outcome.count;
     }
-    Outcome {
+    Moved {
         count: done,
         state: State::More,
     }

@@ -2,20 +2,20 @@
 use crate::telling::is_interrupted;
 use crate::telling::tell;
 use libc::STDOUT_FILENO;
-use outcomes::Outcome;
+use outcomes::Moved;
 use program::Doing;
 use program::Program;
 ghost use Rattle.io.specs.Counts.{Counts};
 
 // One write.
-fn write_once(descriptor: i32, bytes: &[u8]) -> Outcome
+fn write_once(descriptor: i32, bytes: &[u8]) -> Moved
     ensures { λ r. ⌜ Counts (r .count) (now (bytes .entry)) ⌝ }
 {
     let answer = libc::write(descriptor, bytes);
     let interrupted = is_interrupted();
     let count = io::count(answer, bytes);
     let state = outcomes::write_of(count, answer < 0, interrupted);
-    Outcome { count, state }
+    Moved { count, state }
 }
 
 // Writes all of these bytes and answers true, or stops at the first write that fails, tells it, and answers false.
