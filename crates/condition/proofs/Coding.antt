@@ -1,16 +1,16 @@
--- A slot coded and read is that slot; a coded slot read and coded again is the same but for a second word that is not considered;
+-- A slot coded and read is that slot; a coded slot read and coded again is the same but for what of its second word is not considered;
 -- and what is read has no code that the table of document 01 does not have.
-use Prim.Native.Nat.{ℕ, _+_, _*_, _/_, _%_, _<_}
+use Prim.Native.Nat.{ℕ, _+_, _-_, _*_, _/_, _%_, _<_, _≤_}
 use mathlib.Core.Path.{_≡_, refl, sym, ap, subst, _∙_}
 use mathlib.Core.Logic.{_⊎_, inl, inr, _↔_}
-use mathlib.Core.Bool.{true, false, not, _&&_}
+use mathlib.Core.Bool.{Bool, true, false, cond, not, _&&_}
 use lib.Dec.{eqb, ltb, leb}
 use native.Mathlib.Omega.{arith}
 use borrow.Author.Tests.{eqb-true, eqb-false, ltb-true, leb-true, ne-eqb, lt-ltb, not-false}
 use Rattle.kit.specs.Ladder.{NoneHolds, Numbered}
 use Rattle.kit.proofs.Cases.{on, clash, given, and-both, and-second, above-zero}
 use Rattle.wire.specs.Distances.{noValue}
-use Rattle.kinds.specs.Words.{isType, isConsidered, secondAllowed, secondHeld, isVoltage}
+use Rattle.kinds.specs.Words.{isType, countryIn, voltageIn, isConsidered, isUnfitted, secondAllowed, secondHeld, isVoltage}
 use Rattle.condition.specs.Slots.{isFilled, isOccupied, bodyOf, slotRows, slotIn, coding, codedOf, settled, HeldBody, MayHold}
 use Rattle.condition.specs.declared.slots.Body.{Body}
 use Rattle.condition.specs.declared.slots.Body.the-variants.{Empty, Area, Traction, Current}
@@ -64,16 +64,24 @@ by-kind P kind four five other =
 
 module _ (number first second : ℕ) (p : 0 < number) where
   traction-held : secondAllowed 4 first second ≡ true → HeldBody number (bodyOf 4 first second)
-  unfolding bodyOf secondAllowed secondHeld isConsidered
+  unfolding bodyOf secondAllowed secondHeld isConsidered isUnfitted
   traction-held a =
       on (eqb first noValue)
-      (λ e. rw e (p, omega arith, refl, λ z. (refl, refl)))
+      (λ e. rw e (p, omega arith, refl, λ z. (refl, refl), λ z. refl))
       (λ e.
-      given (and-both (ltb second 0x4000) (isVoltage (second % 16)) (rw e at a))
-      (λ (small, volt). rw e (p, omega arith, volt, λ z. absurd (eqb-false first noValue e z))))
+      given (and-both (ltb second 0x4000) (isVoltage (voltageIn second)) (rw e at a))
+      (λ (small, volt).
+      let no : first ≡ noValue → ⊥ = eqb-false first noValue e in
+      on (eqb (voltageIn second) 0)
+      (λ f.
+      let none : voltageIn second ≡ 0 = eqb-true (voltageIn second) 0 f in
+      let country : countryIn (second - countryIn second * 16) ≡ 0 = omega arith in
+      let voltage : voltageIn (second - countryIn second * 16) ≡ 0 = omega arith in
+      rw (e, f) (p, omega arith, rw voltage refl, λ z. absurd (no z), λ z. country))
+      (λ f. rw (e, f) (p, omega arith, volt, λ z. absurd (no z), λ z. absurd (eqb-false (voltageIn second) 0 f z)))))
 
   current-held : secondAllowed 5 first second ≡ true → HeldBody number (bodyOf 5 first second)
-  unfolding bodyOf secondAllowed secondHeld isConsidered
+  unfolding bodyOf secondAllowed secondHeld isConsidered isUnfitted
   current-held a =
       on (eqb first noValue)
       (λ e. rw e (p, refl, λ z. refl))
@@ -113,15 +121,20 @@ module _ (number first second : ℕ) where
       secondAllowed kind first second ≡ true
       → coding number (bodyOf kind first second) ≡ record { number = number; kind = kind; first = first; second = secondHeld kind first second }
 
+  -- the country and the voltage that are held, coded, are the word that is held
+  parts-again : (held : ℕ) → held ≤ second → second < 0x4000 → countryIn held % 1024 * 16 + voltageIn held % 16 ≡ held
+  parts-again held p q = omega arith
+
   traction-again : Again 4
   unfolding bodyOf secondAllowed secondHeld isConsidered
   traction-again a =
       on (eqb first noValue)
       (λ e. rw e refl)
       (λ e.
-      given (and-both (ltb second 0x4000) (leb (second % 16) 5) (rw e at a))
+      given (and-both (ltb second 0x4000) (isVoltage (voltageIn second)) (rw e at a))
       (λ (small, volt).
-      let same : second / 16 % 1024 % 1024 * 16 + second % 16 % 16 ≡ second = omega (arith, ltb-true second 0x4000 small) in
+      let at-most : (test : Bool) → cond test (second - countryIn second * 16) second ≤ second = λ test. on test (λ t. rw t (omega arith)) (λ t. rw t (omega arith)) in
+      let same = parts-again (cond (isUnfitted 4 second) (second - countryIn second * 16) second) (at-most (isUnfitted 4 second)) (ltb-true second 0x4000 small) in
       rw e (λ i. record { number = number; kind = 4; first = first; second = same i })))
 
   current-again : Again 5
@@ -129,14 +142,14 @@ module _ (number first second : ℕ) where
   current-again a = refl
 
   area-again : (kind : ℕ) → isType kind ≡ true → eqb kind 4 ≡ false → eqb kind 5 ≡ false → Again kind
-  unfolding bodyOf secondHeld
+  unfolding bodyOf secondHeld isUnfitted
   area-again kind t a b w = rw (a, b, t, other-considered kind first a b) refl
 
 zero-again : (c : Coded) → Zero c → codedOf (slotIn c) ≡ settled c
-unfolding codedOf bodyOf secondHeld isConsidered
+unfolding codedOf bodyOf secondHeld isConsidered isUnfitted
 zero-again c z = rw (z .number, z .kind, z .first, z .second) refl
 
--- K-12 of a slot: nothing alters but a second word that is not considered
+-- K-12, CR1-3 of a slot: nothing alters but what of the second word is not considered
 pub coded-back : (c : Coded) → NoneHolds (slotRows c) → codedOf (slotIn c) ≡ settled c
 unfolding codedOf
 coded-back c s = go (rows-say c s)
@@ -157,7 +170,7 @@ abbrev Back : ℕ → Body → Type 0
 Back number body = NoneHolds (slotRows (coding number body)) × (slotIn (coding number body) ≡ record { number = number; body = body })
 
 back : (number : ℕ) (body : Body) → HeldBody number body → Back number body
-unfolding slotRows bodyOf secondAllowed secondHeld isConsidered
+unfolding slotRows bodyOf secondAllowed secondHeld isConsidered isUnfitted
 back number Empty w = ((refl, (refl, (refl, tt))), ap (λ n. record { number = n; body = Empty }) (sym w))
 back number (Area kind entry exit) (p, t, a, b) =
     let n0 : eqb number 0 ≡ false = ne-eqb number 0 (omega arith) in
@@ -165,7 +178,7 @@ back number (Area kind entry exit) (p, t, a, b) =
       (rw n0 refl, (rw (n1, t) refl, (on (eqb entry noValue) (λ e. rw (e, a, b) refl) (λ e. rw (e, a, b) refl), tt))),
       rw (a, b, t) refl,
     )
-back number (Traction change country voltage) (p, c, v, z) =
+back number (Traction change country voltage) (p, c, v, z, unfitted) =
     let n0 : eqb number 0 ≡ false = ne-eqb number 0 (omega arith) in
     let n1 : ltb 0 number ≡ true = lt-ltb 0 number p in
     let second : ℕ = country % 1024 * 16 + voltage % 16 in
@@ -178,12 +191,17 @@ back number (Traction change country voltage) (p, c, v, z) =
     (λ e.
     let s1 : ltb second 0x4000 ≡ true = lt-ltb second 0x4000 (omega arith) in
     let volts = leb-true voltage _ v in
-    let c1 : second / 16 % 1024 ≡ country = omega arith in
-    let v1 : second % 16 ≡ voltage = omega arith in
-    let s2 : isVoltage (second % 16) ≡ true = ap isVoltage v1 ∙ v in (
-      (rw n0 refl, (rw n1 refl, (rw (e, s1, s2) refl, tt))),
-      rw e (λ i. record { number = number; body = Traction change (c1 i) (v1 i) }),
-    ))
+    let c1 : countryIn second ≡ country = omega arith in
+    let v1 : voltageIn second ≡ voltage = omega arith in
+    let s2 : isVoltage (voltageIn second) ≡ true = ap isVoltage v1 ∙ v in
+    let silent : NoneHolds (slotRows (coding number (Traction change country voltage))) = (rw n0 refl, (rw n1 refl, (rw (e, s1, s2) refl, tt))) in
+    on (eqb (voltageIn second) 0)
+    (λ f.
+    let none : country ≡ 0 = unfitted (sym v1 ∙ eqb-true (voltageIn second) 0 f) in
+    let c2 : countryIn (second - countryIn second * 16) ≡ country = omega arith in
+    let v2 : voltageIn (second - countryIn second * 16) ≡ voltage = omega arith in
+    (silent, rw (e, f) (λ i. record { number = number; body = Traction change (c2 i) (v2 i) })))
+    (λ f. (silent, rw (e, f) (λ i. record { number = number; body = Traction change (c1 i) (v1 i) }))))
 back number (Current change limit) (p, l, z) =
     let n0 : eqb number 0 ≡ false = ne-eqb number 0 (omega arith) in
     let n1 : ltb 0 number ≡ true = lt-ltb 0 number p in

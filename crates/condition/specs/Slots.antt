@@ -7,7 +7,7 @@ use lib.Dec.{eqb, ltb}
 use Rattle.kit.specs.Bytes.{wordBytes}
 use Rattle.kit.specs.Ladder.{ladder}
 use Rattle.wire.specs.Distances.{noValue}
-use Rattle.kinds.specs.Words.{isType, isVoltage, isCurrentWord, secondAllowed, secondHeld}
+use Rattle.kinds.specs.Words.{isType, countryIn, voltageIn, isVoltage, isCurrentWord, secondAllowed, secondHeld}
 use Rattle.condition.specs.declared.slots.Body.{Body}
 use Rattle.condition.specs.declared.slots.Body.the-variants.{Empty, Area, Traction, Current}
 use Rattle.condition.specs.declared.slots.Coded.{Coded}
@@ -32,11 +32,10 @@ isFilled (Current change limit) = true
 abbrev pub isOccupied : Slot → Bool
 isOccupied x = isFilled (x .body)
 
--- K-01 to K-04, K-11: the body that a type and two words make; bits 13..4 are the country, whatever the voltage (K-09), bits 3..0 the
--- voltage
+-- K-01 to K-04, K-11, CR1-2: the body that a type and two words make, by the second word as it is held
 unfoldable pub bodyOf : ℕ → ℕ → ℕ → Body
 bodyOf kind first second =
-    cond (eqb kind 4) (Traction first (secondHeld kind first second / 16 % 1024) (secondHeld kind first second % 16))
+    cond (eqb kind 4) (Traction first (countryIn (secondHeld kind first second)) (voltageIn (secondHeld kind first second)))
     (cond (eqb kind 5) (Current first (secondHeld kind first second))
     (cond (isType kind) (Area kind first second) Empty))
 
@@ -73,7 +72,7 @@ codedOf x = coding (x .number) (x .body)
 abbrev pub kindOf : Slot → ℕ
 kindOf x = codedOf x .kind
 
--- K-11: what is left of a coded slot when it is read and written again: its second word as it is held
+-- K-11, CR1-2: what is left of a coded slot when it is read and written again: its second word as it is held
 abbrev pub settled : Coded → Coded
 settled c = record { number = c .number; kind = c .kind; first = c .first; second = secondHeld (c .kind) (c .first) (c .second) }
 
@@ -82,11 +81,13 @@ unfoldable pub sixOf : Coded → List ℕ
 sixOf c = (c .number ∷ []) ++ ((c .kind ∷ []) ++ (wordBytes (c .first) ++ wordBytes (c .second)))
 
 -- What a desk or a reader can hold: a slot is empty exactly when its number is 0; types, voltages, countries and limits are
--- those of the table (K-01 to K-04); and what is not considered is zero (K-11).
+-- those of the table (K-01 to K-04); and what is not considered is zero: without a change distance all that follows it (K-11), and with
+-- voltage 0 the country (CR1-2).
 abbrev pub HeldBody : ℕ → Body → Type 0
 HeldBody number Empty = number ≡ 0
 HeldBody number (Area kind entry exit) = (0 < number) × (isType kind ≡ true) × (eqb kind 4 ≡ false) × (eqb kind 5 ≡ false)
-HeldBody number (Traction change country voltage) = (0 < number) × (country < 1024) × (isVoltage voltage ≡ true) × (change ≡ noValue → (country ≡ 0) × (voltage ≡ 0))
+HeldBody number (Traction change country voltage) =
+    (0 < number) × (country < 1024) × (isVoltage voltage ≡ true) × (change ≡ noValue → (country ≡ 0) × (voltage ≡ 0)) × (voltage ≡ 0 → country ≡ 0)
 HeldBody number (Current change limit) = (0 < number) × (isCurrentWord limit ≡ true) × (change ≡ noValue → limit ≡ 0)
 
 -- the same, of the slot

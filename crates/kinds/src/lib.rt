@@ -81,12 +81,18 @@ pub fn second_allowed(kind: u8, first: u16, second: u16) -> bool
     true
 }
 
-// The second word as a desk and a reader hold it.
+// The second word as a desk and a reader hold it: zero without a change distance, and without its country with voltage 0.
 pub fn second_held(kind: u8, first: u16, second: u16) -> u16
     ensures { λ r. ⌜ r ≡ secondHeld kind first second ⌝ }
 {
-    if considered(kind, first) {
+    if !considered(kind, first) {
+        return 0;
+    }
+    if kind != TRACTION {
         return second;
     }
-    0
+    if second % VOLTAGES == 0 {
+        return second - second / VOLTAGES % COUNTRIES * VOLTAGES;
+    }
+    second
 }
