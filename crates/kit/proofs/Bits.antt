@@ -1,6 +1,6 @@
 -- Bits of numbers: zero has none; below k, a multiple of 2 ^ k makes no difference; from k on, they are the bits of what division by 2 ^ k
 -- leaves.
-use Prim.Native.Nat.{ℕ, zero, suc, _+_, _*_, _/_, _%_, _<_, _^_}
+use Prim.Native.Nat.{ℕ, zero, suc, _+_, _-_, _*_, _/_, _%_, _<_, _≤_, _^_}
 use mathlib.Core.Path.{_≡_, refl, sym, ap, _∙_}
 use mathlib.Core.Bool.{false}
 use lib.Dec.{eqb}
@@ -28,3 +28,12 @@ bit-above zero i n = let whole : n ≡ n / 2 ^ 0 = omega arith in ap (λ j. bit 
 bit-above (suc k) i n =
     ap (λ j. bit j n) (add-suc i k)
     ∙ (bit-above k i (n / 2) ∙ ap (bit i) (div-div-eq-div-mul n 2 (2 ^ k) ∙ ap (λ x. n / x) (mul-comm 2 (2 ^ k) ∙ sym (pow-suc 2 k))))
+
+-- of a word, the byte below has the lower eight; and a byte has no others
+pub bit-low : (i n : ℕ) → i < 8 → bit i (n % 256) ≡ bit i n
+bit-low i n p = let parts : n / 256 * 2 ^ 8 + n % 256 ≡ n = omega arith in sym (bit-beside 8 i (n / 256) (n % 256) p) ∙ ap (bit i) parts
+
+pub bit-past : (i n : ℕ) → 8 ≤ i → n < 256 → bit i n ≡ false
+bit-past i n p q =
+    let split : i ≡ (i - 8) + 8 = omega arith in
+    let none : n / 2 ^ 8 ≡ 0 = omega arith in ap (λ j. bit j n) split ∙ (bit-above 8 (i - 8) n ∙ (ap (bit (i - 8)) none ∙ bit-zero (i - 8)))
