@@ -15,7 +15,7 @@ use Rattle.wire.proofs.Answers.{ruling-apart}
 use Rattle.wire.proofs.Metres.{word-said}
 use Rattle.condition.specs.Slots.{MayHold, settled, codedOf}
 use Rattle.condition.proofs.Coding.{coded-back}
-use Rattle.telegram.specs.Sendable.{slotOn, isIdle}
+use Rattle.telegram.specs.Sendable.{slotOn, mayAlter}
 use Rattle.telegram.specs.Tables.{tableSlot}
 use Rattle.telegram.specs.Telegrams.{codedAt, telegramOf as meant, bytesOf, readOf, writeVerdict, written}
 use Rattle.telegram.specs.declared.Reading.{Reading}
@@ -104,12 +104,12 @@ read-written desk packet buffer made accepted =
 
 -- what was read is written again
 written-again : (bytes buffer : List ℕ) → Bytes bytes → readOf bytes .verdict ≡ Accepted → length buffer ≡ 26
-    → (i : ℕ) → i < 26 → getD (written (readOf bytes .telegram) buffer) i 0 ≡ cond (isIdle bytes i) 0 (getD bytes i 0)
-written-again bytes buffer fits accepted long i below =
+    → (i b : ℕ) → i < 26 → bit b (getD (written (readOf bytes .telegram) buffer) i 0) ≡ cond (mayAlter bytes i b) false (bit b (getD bytes i 0))
+written-again bytes buffer fits accepted long i b below =
     let t = readOf bytes .telegram in
     let sendable = accepted-sendable bytes fits accepted in
-    ap (λ l. getD l i 0) (packet-fills t buffer (sendable .packet-from) (sendable .packet-to) long ∙ ap bytesOf (accepted-means bytes accepted))
-    ∙ write-again bytes fits (reading-accepted bytes .0 accepted) i below
+    ap (λ l. bit b (getD l i 0)) (packet-fills t buffer (sendable .packet-from) (sendable .packet-to) long ∙ ap bytesOf (accepted-means bytes accepted))
+    ∙ write-again bytes fits (reading-accepted bytes .0 accepted) i b below
 
 read-back : ReadBack
 unfolding packetOf
@@ -119,9 +119,9 @@ read-back =
           let back = q ∙ (ap readOf (same ∙ p .1) ∙ read-written desk packet (buffer .now) made (sym (p .0) ∙ ruling-apart verdict Accepted accepted)) in
           (ap (λ (r : Reading). rulingOf (r .verdict)) back, ap (λ (r : Reading). r .telegram) back);
       table = λ κs (desk, _) table lasts p i below. slot-carried (tableOf desk) i below .1 ∙ ap (λ t. tableSlot t i) (sym p);
-      again = λ κs (bytes, _) reading lasts p fits accepted κs' (telegram, (buffer, _)) verdict lasts' q same long i below.
-          ap (λ l. getD l i 0) (q .1 ∙ ap (λ t. written t (buffer .now)) (same ∙ ap (λ r. r .telegram) p))
-          ∙ written-again (bytes .now) (buffer .now) fits (sym (ap (λ r. r .verdict) p) ∙ ruling-apart (reading .verdict) Accepted accepted) long i below;
+      again = λ κs (bytes, _) reading lasts p fits accepted κs' (telegram, (buffer, _)) verdict lasts' q same long i b below.
+          ap (λ l. bit b (getD l i 0)) (q .1 ∙ ap (λ t. written t (buffer .now)) (same ∙ ap (λ r. r .telegram) p))
+          ∙ written-again (bytes .now) (buffer .now) fits (sym (ap (λ r. r .verdict) p) ∙ ruling-apart (reading .verdict) Accepted accepted) long i b below;
     }
 
 -- ---- what is shown

@@ -10,15 +10,15 @@
 use Prim.Native.Nat.{ℕ, _+_, _/_, _%_, _<_}
 use mathlib.Core.Path.{_≡_}
 use mathlib.Core.Logic.{_⊎_}
-use mathlib.Core.Bool.{cond}
+use mathlib.Core.Bool.{false, cond}
 use mathlib.Core.List.{List, [], _∷_}
 use lib.ListN.{length, getD}
-use Rattle.kit.specs.Bytes.{Bytes}
+use Rattle.kit.specs.Bytes.{Bytes, bit}
 use Rattle.wire.specs.Distances.{InRange, distanceWord}
 use Rattle.wire.specs.Verdicts.{ruledAccepted, rulingOf}
 use Rattle.condition.specs.Slots.{MayHold, codedOf, settled}
 use Rattle.condition.specs.declared.slots.Coded.{Coded}
-use Rattle.telegram.specs.Sendable.{slotOn, isIdle}
+use Rattle.telegram.specs.Sendable.{slotOn, mayAlter}
 use Rattle.telegram.specs.Tables.{tableSlot}
 use Rattle.telegram.specs.Telegrams.{packetIn, stepIn, codedAt}
 use Rattle.telegram.specs.declared.Telegram.{Telegram}
@@ -45,7 +45,7 @@ pub record Codes (taken : Coded → Coded) (bytes : List ℕ) (t : Telegram) : T
 pub record AsDocument01Says : Type 2 where
   -- M-2a: what a desk writes codes its telegram
   pub writes : OfWrite (λ desk packet buffer verdict after. Made desk → rulingOf verdict ≡ ruledAccepted → Codes (λ c. c) after (packetOf desk packet))
-  -- M-2b: what is read from bytes is the telegram that they code, a second word that is not considered taken as zero (K-11)
+  -- M-2b: what is read from bytes is the telegram that they code, what of a second word is not considered taken as zero (K-11, CR1-2)
   pub reads-so : OfRead (λ bytes reading. rulingOf (reading .verdict) ≡ ruledAccepted → Codes settled bytes (reading .telegram))
   -- K-06, K-07: a word of 16 bits is metres from -32,767 to 32,767 or no value, and each of these is one word
   pub distances : OfDistance (λ word distance. word < 0x10000 → InRange distance × (distanceWord distance ≡ word))
@@ -61,10 +61,13 @@ pub record ReadBack : Type 0 where
       → OfRead (λ bytes reading. bytes ≡ after → (rulingOf (reading .verdict) ≡ ruledAccepted) × (reading .telegram ≡ packetOf desk packet)))
   -- T-04: and they carry the table: slot i is place i % 4 of packet 3 + i / 4
   pub table : OfTable (λ desk table. (i : ℕ) → i < 20 → slotOn (packetOf desk (3 + i / 4)) (i % 4) ≡ tableSlot table i)
-  -- K-12: what was read and is written again has the same bytes, but for those of a second word that is not considered, which are zero
+  -- K-12, CR1-3: what was read and is written again has the same 26 bytes, bit by bit, but for two places, where the bits are zero. Both
+  -- stand in `mayAlter`; that each is needed, reckoned/specs/Requests.antt shows by a telegram.
+  --   K-10: of types 4 and 5 with change distance 8000h, all bits of the second word
+  --   CR1-1: of type 4 with voltage 0, the ten country bits of the second word
   pub again : OfRead (λ bytes reading. Bytes bytes → rulingOf (reading .verdict) ≡ ruledAccepted
       → OfWriteTelegram (λ telegram buffer verdict after. telegram ≡ reading .telegram → length buffer ≡ 26
-      → (i : ℕ) → i < 26 → getD after i 0 ≡ cond (isIdle bytes i) 0 (getD bytes i 0)))
+      → (i b : ℕ) → i < 26 → bit b (getD after i 0) ≡ cond (mayAlter bytes i b) false (bit b (getD bytes i 0))))
 
 -- ---- "An invalid code never shows as a valid state."
 
@@ -87,7 +90,8 @@ pub record TheListener : Type 0 where
   pub hears : (earlier : List (List ℕ)) → OfHear (λ listener telegram heard. listener ≡ heardAll carries earlier → heard .listener ≡ heardAll carries (telegram ∷ earlier))
 
 pub record Valid : Type 0 where
-  -- M-2e: whatever the bytes, a slot that is read has a type, a country, a voltage and a limit of the table of conditions
+  -- M-2e: whatever the bytes, a slot that is read has a type, a country, a voltage and a limit of the table of conditions, and no country
+  -- with voltage 0 (CR1-2)
   pub read : OfRead (λ bytes reading. (k : ℕ) → MayHold (slotOn (reading .telegram) k))
   -- M-2e: and so has each slot of the picture, whatever was heard
   pub picture : (telegrams : List (List ℕ)) (i : ℕ) → MayHold (tableSlot (heardAll carries telegrams .picture) i)

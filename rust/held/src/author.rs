@@ -220,6 +220,22 @@ pub fn words(random: &mut Random, kind: u8) -> Condition {
     }
 }
 
+/// A change of traction system, mostly with voltage 0, with any country, and
+/// seldom with bits 15 and 14 set, which are checked unless the change distance
+/// has no value.
+pub fn unfitted(random: &mut Random) -> Condition {
+    let anywhere = random.below(1024) as u16;
+    let country = random.pick(&[0, 1, 33, 512, 1023, anywhere]);
+    let voltage = random.pick(&[0, 0, 0, 1, 5]);
+    let top = random.pick(&[0, 0, 0, 0, 0, 0, 0, 0x4000, 0x8000, 0xC000]);
+    let first = distance(random);
+    Condition {
+        kind: TRACTION_CHANGE,
+        first: if random.once_in(8) { NO_VALUE } else { first },
+        second: top | country << 4 | voltage,
+    }
+}
+
 fn distance(random: &mut Random) -> u16 {
     match random.below(4) {
         0 => random.pick(&EDGES),

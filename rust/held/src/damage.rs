@@ -1,6 +1,6 @@
 //! Recordings with bytes damaged, out of frame, or made up.
 
-use crate::author::words;
+use crate::author::{unfitted, words};
 use crate::loss::{long_run, run_file, telegrams};
 use crate::random::Random;
 use plain::run::TABLE_BYTES;
@@ -181,6 +181,28 @@ pub fn faulty_slots(random: &mut Random) -> Vec<u8> {
                     telegram.copy_within(other..other + 6, at);
                 }
             }
+        }
+    }
+    recording
+}
+
+/// Slots of type 4 as another writer may send them: the numbers stay from step
+/// to step, while countries come with voltage 0 and without it.
+pub fn voltage_zero_heard(random: &mut Random) -> Vec<u8> {
+    let mut recording = Vec::new();
+    let mut step = random.below(8192) as u16;
+    let occupied = random.between(1, 8);
+    for _ in 0..60 {
+        step = (step + random.pick(&[1, 1, 1, 2, 8, 9])) % 8192;
+        let mut table = Table::default();
+        for (slot, number) in table.iter_mut().zip(1..=20).take(occupied) {
+            *slot = Slot {
+                number,
+                condition: unfitted(random),
+            };
+        }
+        for packet in 3..=7 {
+            put_packet(&mut recording, step, &table, packet);
         }
     }
     recording

@@ -1,13 +1,13 @@
 //! Inputs of the run: lists, each after its length in two bytes.
 
-use crate::author::{words, Author, EDGES};
+use crate::author::{unfitted, words, Author, EDGES};
 use crate::random::Random;
 use crate::regime::{Regime, Times};
 use crate::turns::{past_the_second_wrap, past_the_wrap, small_turn, turn_of_16_bits, whole_turn};
 use plain::condition::{Condition, CURRENT_CHANGE, NO_VALUE, TRACTION_CHANGE};
 use plain::order::Order;
 
-pub const REGIMES: [Regime; 19] = [
+pub const REGIMES: [Regime; 20] = [
     Regime {
         name: "twenty-new",
         sentence: "Twenty wholly new orders come in every step.",
@@ -66,6 +66,12 @@ pub const REGIMES: [Regime; 19] = [
         name: "second-words",
         sentence: "Types 4 and 5 have every kind of second word, also with change 8000h.",
         make: second_words,
+        times: Times::InTurn,
+    },
+    Regime {
+        name: "voltage-zero",
+        sentence: "Type 4 has voltage 0 and any country, with bits 15 and 14 set, too.",
+        make: voltage_zero,
         times: Times::InTurn,
     },
     Regime {
@@ -308,6 +314,25 @@ fn second_words(random: &mut Random) -> Vec<u8> {
         let good = author.fresh_order().bytes();
         list.insert(author.random.below(2), good);
         author.put(list.as_flattened());
+    }
+    author.input
+}
+
+/// The orders stay while their words change, so that a country comes and goes
+/// with the voltage of one and the same order.
+pub fn voltage_zero(random: &mut Random) -> Vec<u8> {
+    let mut author = Author::new(random);
+    let orders = author.random.between(1, 6);
+    author.begin(orders);
+    for _ in 0..60 {
+        for order in &mut author.live {
+            order.condition = unfitted(author.random);
+        }
+        author.put_live();
+        author.live.retain(|_| !author.random.once_in(8));
+        if author.live.len() < orders {
+            author.begin(1);
+        }
     }
     author.input
 }

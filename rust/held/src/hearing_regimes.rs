@@ -1,7 +1,9 @@
 //! Inputs of the hearing: telegrams of any length, each after its length in two
 //! bytes.
 
-use crate::damage::{byte_damaged, clashes, faulty_slots, low_packets, made_up};
+use crate::damage::{
+    byte_damaged, clashes, faulty_slots, low_packets, made_up, voltage_zero_heard,
+};
 use crate::loss::{run_file, telegrams};
 use crate::random::Random;
 use crate::regime::{Regime, Times};
@@ -103,11 +105,12 @@ fn framed_lengths(random: &mut Random) -> Vec<u8> {
 }
 
 fn framed_damaged(random: &mut Random) -> Vec<u8> {
-    let recording = match random.below(5) {
+    let recording = match random.below(6) {
         0 => byte_damaged(random),
         1 => faulty_slots(random),
         2 => low_packets(random),
         3 => made_up(random),
+        4 => voltage_zero_heard(random),
         _ => clashes(random),
     };
     let seldom = random.between(3, 40);

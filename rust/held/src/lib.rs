@@ -20,6 +20,7 @@ pub mod regime;
 pub mod signal_regimes;
 pub mod tally;
 pub mod turns;
+pub mod unfitted;
 pub mod whole;
 pub mod words;
 pub mod writing;

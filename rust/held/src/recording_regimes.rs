@@ -2,7 +2,7 @@
 
 use crate::damage::{
     bits_flipped, byte_damaged, clashes, faulty_slots, long_recording, low_packets, made_up,
-    out_of_frame, random_recordings, tails,
+    out_of_frame, random_recordings, tails, voltage_zero_heard,
 };
 use crate::loss::{
     changed_copies, heard_whole, interleaved, last_step_again, repeated, shuffled, steps_lost,
@@ -10,7 +10,7 @@ use crate::loss::{
 };
 use crate::regime::{Regime, Times};
 
-pub const REGIMES: [Regime; 19] = [
+pub const REGIMES: [Regime; 20] = [
     Regime {
         name: "heard-whole",
         sentence: "Every telegram of a run is heard.",
@@ -99,6 +99,12 @@ pub const REGIMES: [Regime; 19] = [
         name: "faulty-slots",
         sentence: "Slots have faults 12, 13, 6 and 14, one or two in a telegram.",
         make: faulty_slots,
+        times: Times::InTurn,
+    },
+    Regime {
+        name: "voltage-zero-heard",
+        sentence: "Another writer sends countries with voltage 0, and bits 15 and 14.",
+        make: voltage_zero_heard,
         times: Times::InTurn,
     },
     Regime {

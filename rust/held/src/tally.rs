@@ -1,6 +1,7 @@
 //! Counts what the compared cases have shown, from the outputs themselves.
 
 use crate::heard::Heard;
+use crate::unfitted::Unfitted;
 use crate::writing::Writes;
 use plain::run::TABLE_BYTES;
 use plain::telegram::TELEGRAM_BYTES;
@@ -18,6 +19,7 @@ pub struct Tally {
     pub new: u64,
     pub carried: u64,
     pub heard: Heard,
+    pub unfitted: Unfitted,
     pub calls: u64,
     pub accepted_calls: u64,
     pub missed_calls: u64,
@@ -123,6 +125,7 @@ impl Tally {
         want(self.short_calls, "an input that ends inside a call".into());
         self.writes.missing(&mut want);
         self.heard.missing(&mut want);
+        self.unfitted.missing(&mut want);
         missing
     }
 
@@ -151,6 +154,7 @@ impl Tally {
         );
         self.writes.print();
         self.heard.print();
+        self.unfitted.print();
     }
 }
 

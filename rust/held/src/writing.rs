@@ -2,7 +2,9 @@
 //! length, by the desk after any lists.
 
 use crate::author::Author;
-use crate::desk_regimes::{distance_edges, ends_inside, mixed_churn, refused_between, twenty_new};
+use crate::desk_regimes::{
+    distance_edges, ends_inside, mixed_churn, refused_between, twenty_new, voltage_zero,
+};
 use crate::hold::hex;
 use crate::random::Random;
 use crate::regime::{Regime, Times};
@@ -64,12 +66,13 @@ fn few_lists(random: &mut Random) -> Vec<u8> {
 }
 
 fn any_lists(random: &mut Random) -> Vec<u8> {
-    match random.below(6) {
+    match random.below(7) {
         0 => twenty_new(random),
         1 => mixed_churn(random),
         2 => distance_edges(random),
         3 => refused_between(random),
         4 => ends_inside(random),
+        5 => voltage_zero(random),
         // A fresh desk's table can be written like any other.
         _ => Vec::new(),
     }

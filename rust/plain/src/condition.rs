@@ -1,4 +1,5 @@
-//! Document 01, "Conditions": the nine types and their two words.
+//! Document 01, "Conditions": the nine types and their two words; and document
+//! 02, request 1: voltage 0 has no country.
 
 /// The distance that means no value. It is never -32,768 metres.
 pub const NO_VALUE: u16 = 0x8000;
@@ -7,13 +8,16 @@ pub const TRACTION_CHANGE: u8 = 4;
 pub const CURRENT_CHANGE: u8 = 5;
 
 const HIGHEST_VOLTAGE: u16 = 5;
+/// The ten country bits in the second word of type 4.
+const COUNTRY_BITS: u16 = 0x3FF0;
 const HIGHEST_LIMIT: u16 = 1000;
 const NO_RESTRICTION: u16 = 1023;
 
 /// A condition as it is held: type, first word and second word.
 ///
 /// A held condition of type 4 or 5 without a change distance has the second
-/// word zero. [`Condition::held`] is the one place that sees to it.
+/// word zero, and one of type 4 with voltage 0 has country 0.
+/// [`Condition::held`] is the one place that sees to it.
 #[derive(Clone, Copy, PartialEq, Eq, Debug, Default)]
 pub struct Condition {
     pub kind: u8,
@@ -30,7 +34,13 @@ fn second_is_not_considered(kind: u8, first: u16) -> bool {
     (kind == TRACTION_CHANGE || kind == CURRENT_CHANGE) && first == NO_VALUE
 }
 
-/// Whether refusal 6 stays away. For the types with an exit every word is a
+/// Type 4 with voltage 0: the line is fitted with no traction system, and the
+/// ten country bits are not considered.
+fn country_is_not_considered(kind: u8, second: u16) -> bool {
+    kind == TRACTION_CHANGE && voltage(second) == 0
+}
+
+/// Whether refusal 6 stays away. Bits 15 and 14 are checked with voltage 0, too. For the types with an exit every word is a
 /// distance or no value, hence allowed.
 pub fn second_is_allowed(kind: u8, first: u16, second: u16) -> bool {
     if second_is_not_considered(kind, first) {
@@ -48,6 +58,8 @@ impl Condition {
     pub fn held(kind: u8, first: u16, second: u16) -> Condition {
         let second = if second_is_not_considered(kind, first) {
             0
+        } else if country_is_not_considered(kind, second) {
+            second & !COUNTRY_BITS
         } else {
             second
         };
@@ -73,7 +85,7 @@ pub fn voltage(second: u16) -> u16 {
     second & 0xF
 }
 
-/// The country in the second word of type 4. It is read with every voltage.
+/// The country in the second word of type 4.
 pub fn country(second: u16) -> u16 {
     second >> 4 & 0x3FF
 }
@@ -135,6 +147,28 @@ mod tests {
         }
         assert_eq!(Condition::held(1, NO_VALUE, 0xFFFF).second, 0xFFFF);
         assert_eq!(Condition::held(5, 0x7FFF, 1000).second, 1000);
+    }
+
+    #[test]
+    fn with_voltage_0_any_country_is_allowed_and_held_as_zero() {
+        for country in 0..1024 {
+            let second = country << 4;
+            for first in [0, 0x7FFF, 0x8001, 0xFFFF] {
+                assert!(second_is_allowed(TRACTION_CHANGE, first, second));
+                assert_eq!(Condition::held(TRACTION_CHANGE, first, second).second, 0);
+                for top in [0x4000, 0x8000, 0xC000] {
+                    assert!(!second_is_allowed(TRACTION_CHANGE, first, top | second));
+                    assert!(second_is_allowed(TRACTION_CHANGE, NO_VALUE, top | second));
+                }
+                for voltage in 1..=5 {
+                    let held = Condition::held(TRACTION_CHANGE, first, second | voltage);
+                    assert_eq!(held.second, second | voltage);
+                }
+            }
+            // A limit whose low four bits are zero, and an exit.
+            assert_eq!(Condition::held(CURRENT_CHANGE, 0, second).second, second);
+            assert_eq!(Condition::held(1, 0, second).second, second);
+        }
     }
 
     #[test]

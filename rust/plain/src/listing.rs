@@ -178,7 +178,7 @@ table 1 4 0
 2 3 5 -1 1023 new
 3 4 5 - - new
 table 2 4 1
-0 1 4 -32767 0/1 carried
+0 1 4 -32767 0/0 carried
 1 5 1 - 32767 new
 2 3 6 32767 - new
 3 4 5 0 0 carried

@@ -49,6 +49,22 @@ fn p1_voltage_1_and_country_33() {
 }
 
 #[test]
+fn request_1_voltage_0_has_no_country() {
+    let mut desk = Desk::new();
+    assert_eq!(put(&mut desk, &order(1, 4, 0, 0x0210)), 0);
+    let mut file = Vec::new();
+    put_table(&desk, &mut file);
+    assert_eq!(file[2..8], [1, 4, 0, 0, 0, 0]);
+    assert_eq!(put(&mut desk, &order(1, 4, 0, 0x4210)), 6);
+    assert_eq!(put(&mut desk, &order(1, 4, 0x8000, 0xC210)), 0);
+    // Heard from another writer.
+    file[6..8].copy_from_slice(&[0x3F, 0xF0]);
+    assert!(listed(&file).contains("\n0 1 4 0 0/0 new\n"));
+    file[6] = 0xBF;
+    assert!(listed(&file).contains("\nrefused 6\n"));
+}
+
+#[test]
 fn p2_limits() {
     for (limit, answer) in [(1000, 0), (1023, 0), (1001, 6), (1022, 6)] {
         let mut desk = Desk::new();

@@ -120,9 +120,15 @@ impl Comparison {
             );
             let expected = &self.holder.expected;
             match function.name {
-                "bravolith_run" => self.tally.count_run(expected),
+                "bravolith_run" => {
+                    self.tally.count_run(expected);
+                    self.tally.unfitted.count_lists(&input);
+                }
                 "bravolith_run_lines" => self.tally.count_run_lines(expected),
-                "bravolith_list" => self.tally.count_listing(&input, expected),
+                "bravolith_list" => {
+                    self.tally.count_listing(&input, expected);
+                    self.tally.unfitted.count_listing(&input, expected);
+                }
                 "bravolith_hear" => self.tally.heard.count(&input, expected),
                 _ => self.tally.count_signals(expected),
             }
