@@ -1,6 +1,6 @@
 // The types of conditions, their two words, and which second words a type allows.
 ghost use mathlib.Core.Path.{_≡_};
-ghost use Rattle.kinds.specs.Words.{isType, isTractionWord, isCurrentWord, isConsidered, secondAllowed, secondHeld};
+ghost use Rattle.kinds.specs.Words.{isType, isTractionWord, isCurrentWord, isConsidered, isUnfitted, secondAllowed, secondHeld};
 use wire::NO_VALUE;
 
 // The types whose second word is no distance; the highest type.
@@ -47,6 +47,16 @@ fn considered(kind: u8, first: u16) -> bool
     kind != CURRENT
 }
 
+// Whether the country is not looked at: a change of traction system with voltage 0, where the line is fitted with none.
+fn unfitted(kind: u8, second: u16) -> bool
+    ensures { λ r. ⌜ r ≡ isUnfitted kind second ⌝ }
+{
+    if kind == TRACTION {
+        return second % VOLTAGES == 0;
+    }
+    false
+}
+
 fn traction_word(second: u16) -> bool
     ensures { λ r. ⌜ r ≡ isTractionWord second ⌝ }
 {
@@ -81,18 +91,15 @@ pub fn second_allowed(kind: u8, first: u16, second: u16) -> bool
     true
 }
 
-// The second word as a desk and a reader hold it: zero without a change distance, and without its country with voltage 0.
+// The second word as a desk and a reader hold it: zero without a change distance, and with voltage 0 without its country.
 pub fn second_held(kind: u8, first: u16, second: u16) -> u16
     ensures { λ r. ⌜ r ≡ secondHeld kind first second ⌝ }
 {
-    if !considered(kind, first) {
-        return 0;
-    }
-    if kind != TRACTION {
+    if considered(kind, first) {
+        if unfitted(kind, second) {
+            return second - second / VOLTAGES % COUNTRIES * VOLTAGES;
+        }
         return second;
     }
-    if second % VOLTAGES == 0 {
-        return second - second / VOLTAGES % COUNTRIES * VOLTAGES;
-    }
-    second
+    0
 }

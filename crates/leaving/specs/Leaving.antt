@@ -18,7 +18,7 @@ use Rattle.leaving.specs.declared.Remains.{Remains}
 abbrev pub staysAmong : List ℕ → ℕ → Place → Bool
 staysAmong list n place = isListed list n (place .order)
 
--- D-07, K-11: the words that the list has for it
+-- D-07, K-11, CR1-2: the words that the list has for it
 abbrev pub bodyIn : Order → Body
 bodyIn order = bodyOf (order .kind) (order .first) (order .second)
 

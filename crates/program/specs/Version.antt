@@ -5,4 +5,4 @@ use mathlib.Core.List.{List}
 use Rattle.kit.specs.Text.{ascii}
 
 abbrev pub versionText : List ℕ
-versionText = ascii " 1.0.0 (Bravolith track conditions box), proved with rattle-kit-5b logic 064da1ca440f63e7\n"
+versionText = ascii " 1.1.0 (Bravolith track conditions box), proved with rattle-kit-5b logic 064da1ca440f63e7\n"

@@ -1,3 +1,4 @@
 pub mod Example
 pub mod Reckoned
+pub mod Requests
 pub mod Standing
