@@ -5,8 +5,8 @@
 --
 -- It is said of the contracts of the functions that write and read (Functions.antt): whatever such a function is handed, each outcome
 -- that its contract allows is as told below; where one function is handed what another gave, of both their outcomes. What the codings
--- are, document 01 says, and after it specs/ of `kinds`, `condition`, `telegram`, `train_codes` and `train_telegram`. proofs/Demand2.antt
--- proves it.
+-- are, document 01 says, and of voltage 0 document 02, request 1; and after them specs/ of `kinds`, `condition`, `telegram`, `train_codes`
+-- and `train_telegram`. proofs/Demand2.antt proves it.
 use Prim.Native.Nat.{ℕ, _+_, _/_, _%_, _<_}
 use mathlib.Core.Path.{_≡_}
 use mathlib.Core.Logic.{_⊎_}

@@ -32,7 +32,7 @@ use Rattle.reckoned.proofs.Wrap.{wrap-holds}
 use Rattle.reckoned.specs.Reckoned.{AllHold, twoWords, wireBytes, ordering, heldFirst, received, p7-telegram, supportedIn, showing, paper, short-rows, orderBytes, orderList, wholly-new, emptyLists, freshRefusal, to-255, one-ended}
 
 -- one row more
-pub infixr 20 _and_
+infixr 20 _and_
 pub _and_ : {row rows : Type 0} → row → rows → row × rows
 row and rows = (row, rows)
 
