@@ -42,10 +42,12 @@ pub record Codes (taken : Coded → Coded) (bytes : List ℕ) (t : Telegram) : T
   pub step : stepIn bytes ≡ t .step
   pub places : (k : ℕ) → k < 4 → taken (codedAt bytes k) ≡ codedOf (slotOn t k)
 
+-- of a country with voltage 0, as document 02 says, request 1
 pub record AsDocument01Says : Type 2 where
   -- M-2a: what a desk writes codes its telegram
   pub writes : OfWrite (λ desk packet buffer verdict after. Made desk → rulingOf verdict ≡ ruledAccepted → Codes (λ c. c) after (packetOf desk packet))
-  -- M-2b: what is read from bytes is the telegram that they code, what of a second word is not considered taken as zero (K-11, CR1-2)
+  -- M-2b: what is read from bytes is the telegram that they code, with the bits of a second word that are not considered taken as zero (K-11,
+  -- CR1-2)
   pub reads-so : OfRead (λ bytes reading. rulingOf (reading .verdict) ≡ ruledAccepted → Codes settled bytes (reading .telegram))
   -- K-06, K-07: a word of 16 bits is metres from -32,767 to 32,767 or no value, and each of these is one word
   pub distances : OfDistance (λ word distance. word < 0x10000 → InRange distance × (distanceWord distance ≡ word))
@@ -62,7 +64,8 @@ pub record ReadBack : Type 0 where
   -- T-04: and they carry the table: slot i is place i % 4 of packet 3 + i / 4
   pub table : OfTable (λ desk table. (i : ℕ) → i < 20 → slotOn (packetOf desk (3 + i / 4)) (i % 4) ≡ tableSlot table i)
   -- K-12, CR1-3: what was read and is written again has the same 26 bytes, bit by bit, but for two places, where the bits are zero. Both
-  -- stand in `mayAlter`; that each is needed, reckoned/specs/Requests.antt shows by a telegram.
+  -- stand in kinds/specs/Words.antt `isIdle`, and `mayAlter` says which bits of the 26 bytes these are. That each place is needed,
+  -- reckoned/specs/Requests.antt shows by telegrams.
   --   K-10: of types 4 and 5 with change distance 8000h, all bits of the second word
   --   CR1-1: of type 4 with voltage 0, the ten country bits of the second word
   pub again : OfRead (λ bytes reading. Bytes bytes → rulingOf (reading .verdict) ≡ ruledAccepted

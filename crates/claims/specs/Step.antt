@@ -107,7 +107,8 @@ pub record OrdersStay (before : Desk) (list : List ℕ) (after : Desk) : Type 0 
   -- D-07: one that stays keeps slot, number and type
   pub keeps : (order i : ℕ) → HasSlot before order i → Present list order
       → HasSlot after order i × (numberIn after i ≡ numberIn before i) × (kindOf (placeAt (after .places) i .slot) ≡ kindOf (placeAt (before .places) i .slot))
-  -- D-07, D-08, K-11, CR1-2: each has the list's type and words, what of a second word is not considered held as zero
+  -- D-07, D-08, K-11, CR1-2: each has the list's type and words, with the bits of a second word that are not considered held as
+  -- zero
   pub words : (j i : ℕ) → j < orderCount list → HasSlot after (orderAt list j .number) i
       → let listed = orderAt list j in
       codedOf (placeAt (after .places) i .slot) ≡ settled (record { number = numberIn after i; kind = listed .kind; first = listed .first; second = listed .second })

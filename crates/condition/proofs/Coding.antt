@@ -1,5 +1,5 @@
--- A slot coded and read is that slot; a coded slot read and coded again is the same but for what of its second word is not considered;
--- and what is read has no code that the table of document 01 does not have.
+-- A slot coded and read is that slot; a coded slot read and coded again is the same but for the bits of its second word that are not
+-- considered; and what is read has no code that the table of document 01 does not have.
 use Prim.Native.Nat.{ℕ, _+_, _-_, _*_, _/_, _%_, _<_, _≤_}
 use mathlib.Core.Path.{_≡_, refl, sym, ap, subst, _∙_}
 use mathlib.Core.Logic.{_⊎_, inl, inr, _↔_}
@@ -149,7 +149,7 @@ zero-again : (c : Coded) → Zero c → codedOf (slotIn c) ≡ settled c
 unfolding codedOf bodyOf secondHeld isConsidered isUnfitted
 zero-again c z = rw (z .number, z .kind, z .first, z .second) refl
 
--- K-12, CR1-3 of a slot: nothing alters but what of the second word is not considered
+-- K-12, CR1-3 of a slot: nothing alters but the bits of the second word that are not considered
 pub coded-back : (c : Coded) → NoneHolds (slotRows c) → codedOf (slotIn c) ≡ settled c
 unfolding codedOf
 coded-back c s = go (rows-say c s)

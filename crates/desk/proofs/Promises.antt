@@ -100,7 +100,7 @@ module _ {desk : Desk} (made : Made desk) where
         ap (λ r. isLive (r .desk .places) order) (accepts baseRest desk list accepted)
         ∙ live-listed baseRest baseRest (omega arith) (omega arith) desk (made-sound made) list (fair (desk .places) list accepted) order p
 
-    -- D-07, D-08: and each has the list's words, what of a second word is not considered held as zero
+    -- D-07, D-08, K-11, CR1-2: and each has the list's words, with the bits of a second word that are not considered held as zero
     pub words-exactly : (i : ℕ) → 1 ≤ placeAt (after .places) i .order → placeAt (after .places) i .slot .body ≡ bodyIn (orderNamed list (placeAt (after .places) i .order))
     words-exactly i =
         let e = ap (λ r. placeAt (r .desk .places) i) (accepts baseRest desk list accepted) in

@@ -32,7 +32,7 @@ module _ (first second : ℕ) (none : voltageIn second ≡ 0) where
   unfolding secondAllowed isConsidered
   unfitted-allowed other = on (ltb second 0x4000) (λ e. rw (ne-eqb first noValue other, none, e) refl) (λ e. rw (ne-eqb first noValue other, e) refl)
 
-  -- CR1-2: with voltage 0 every word that is allowed is held as zero
+  -- CR1-2: with voltage 0 every word below 4000h is held as zero
   pub unfitted-held : second < 0x4000 → secondHeld 4 first second ≡ 0
   unfolding secondHeld isUnfitted
   unfitted-held p = on (isConsidered 4 first) (λ e. rw (e, eq-eqb (voltageIn second) 0 none) (omega arith)) (λ e. rw e refl)

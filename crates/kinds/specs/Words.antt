@@ -1,5 +1,5 @@
 -- The types of conditions and their second words: document 01, "Conditions", its table and the paragraph on words that are not
--- considered.
+-- considered; and document 02, request 1: voltage 0 has no country.
 use Prim.Native.Nat.{ℕ, _-_, _*_, _/_, _%_}
 use mathlib.Core.Bool.{Bool, true, cond, not, _&&_, _||_}
 use lib.Dec.{eqb, ltb, leb}
@@ -21,7 +21,7 @@ voltageIn second = second % 16
 abbrev pub isVoltage : ℕ → Bool
 isVoltage voltage = leb voltage 5
 
--- K-03: bits 15..14 zero, any country, and the voltage; CR1-4: with voltage 0, too
+-- K-03: bits 15..14 zero, any country, and one of these voltages; CR1-4: bits 15..14 zero with voltage 0, too
 abbrev pub isTractionWord : ℕ → Bool
 isTractionWord second = ltb second 0x4000 && isVoltage (voltageIn second)
 
@@ -33,7 +33,8 @@ isCurrentWord second = leb second 1000 || eqb second 1023
 unfoldable pub isConsidered : ℕ → ℕ → Bool
 isConsidered kind first = not (eqb first noValue && (eqb kind 4 || eqb kind 5))
 
--- R-06, K-01, K-03, K-04, K-10: the second word is allowed for the type; K-08: where it is an exit every word is, whatever the entry
+-- R-06, K-01, K-03, K-04, K-10: the second word is allowed for the type; K-08: where it is an exit every word is, whatever the entry;
+-- CR1-1, CR1-4: with voltage 0 any country is
 unfoldable pub secondAllowed : ℕ → ℕ → ℕ → Bool
 secondAllowed kind first second =
     not (isConsidered kind first)

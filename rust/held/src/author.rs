@@ -221,17 +221,22 @@ pub fn words(random: &mut Random, kind: u8) -> Condition {
 }
 
 /// A change of traction system, mostly with voltage 0, with any country, and
-/// seldom with bits 15 and 14 set, which are checked unless the change distance
-/// has no value.
+/// now and then with bit 15 or 14 set, which is checked unless the change
+/// distance has no value.
 pub fn unfitted(random: &mut Random) -> Condition {
     let anywhere = random.below(1024) as u16;
     let country = random.pick(&[0, 1, 33, 512, 1023, anywhere]);
     let voltage = random.pick(&[0, 0, 0, 1, 5]);
-    let top = random.pick(&[0, 0, 0, 0, 0, 0, 0, 0x4000, 0x8000, 0xC000]);
-    let first = distance(random);
+    let anywhere = distance(random);
+    let first = random.pick(&[anywhere, anywhere, anywhere, 0, 2000, NO_VALUE]);
+    // The top bits are not checked without a change distance, so that they do
+    // not spoil the list there.
+    let seldom = if first == NO_VALUE { 2 } else { 24 };
+    let top = random.pick(&[0x4000, 0x8000, 0xC000]);
+    let top = if random.once_in(seldom) { top } else { 0 };
     Condition {
         kind: TRACTION_CHANGE,
-        first: if random.once_in(8) { NO_VALUE } else { first },
+        first,
         second: top | country << 4 | voltage,
     }
 }

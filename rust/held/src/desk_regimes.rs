@@ -70,7 +70,7 @@ pub const REGIMES: [Regime; 20] = [
     },
     Regime {
         name: "voltage-zero",
-        sentence: "Type 4 has voltage 0 and any country, with bits 15 and 14 set, too.",
+        sentence: "Type 4 has mostly voltage 0, any country, and now and then bit 15 or 14.",
         make: voltage_zero,
         times: Times::InTurn,
     },

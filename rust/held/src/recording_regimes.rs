@@ -103,7 +103,7 @@ pub const REGIMES: [Regime; 20] = [
     },
     Regime {
         name: "voltage-zero-heard",
-        sentence: "Another writer sends countries with voltage 0, and bits 15 and 14.",
+        sentence: "Another writer sends countries with voltage 0, now and then bit 15 or 14.",
         make: voltage_zero_heard,
         times: Times::InTurn,
     },

@@ -40,8 +40,9 @@ fn country_is_not_considered(kind: u8, second: u16) -> bool {
     kind == TRACTION_CHANGE && voltage(second) == 0
 }
 
-/// Whether refusal 6 stays away. Bits 15 and 14 are checked with voltage 0, too. For the types with an exit every word is a
-/// distance or no value, hence allowed.
+/// Whether refusal 6 stays away. Bits 15 and 14 of type 4 are checked with
+/// every voltage. For the types with an exit every word is a distance or no
+/// value, hence allowed.
 pub fn second_is_allowed(kind: u8, first: u16, second: u16) -> bool {
     if second_is_not_considered(kind, first) {
         return true;

@@ -1,7 +1,8 @@
-//! Document 01 once more, in plain Rust.
+//! Document 01 once more, in plain Rust, and the requests of document 02 that
+//! have landed.
 //!
-//! This library was written from document 01 alone. It shares no line and no
-//! definition with the proved library, so that an error of one is not an
+//! This library was written from documents 01 and 02 alone. It shares no line
+//! and no definition with the proved library, so that an error of one is not an
 //! error of both. It is used in two ways: `compare` runs the two on the same
 //! inputs and compares every byte, and `bench` measures them side by side.
 //!

@@ -1,5 +1,6 @@
 //! Document 01, "Reckoned by hand" and "Errors that look right": P1 to P8,
-//! the gap 8 and 9, and the example of the listing, from outside the library.
+//! the gap 8 and 9, and the example of the listing, from outside the library;
+//! and what request 1 of document 02 says of voltage 0.
 
 use plain::calls::signals;
 use plain::desk::Desk;
