@@ -5,7 +5,9 @@
 //! `libbravolith.a`, as `tools/install PREFIX` installs it. The variable
 //! BRAVOLITH_ARCHIVE_DIR names the folder that has it. Where that is not set, it
 //! is looked for in `target/staticlib` of the repository, then where pkg-config
-//! says that it is installed, and then in `/usr/local/lib` and `/usr/lib`.
+//! says that it is installed, and then in `/usr/local/lib` and `/usr/lib`. It is
+//! for x86-64, unless BRAVOLITH_ARCHIVE_ARCH names another processor, as
+//! `tools/bench` does of what `tools/native` makes to be measured.
 
 use std::env;
 use std::path::{Path, PathBuf};
@@ -16,10 +18,13 @@ const NAMES: [&str; 2] = ["bravolith", "exports"];
 
 fn main() {
     println!("cargo:rerun-if-changed=build.rs");
+    println!("cargo:rerun-if-env-changed=BRAVOLITH_ARCHIVE_ARCH");
     println!("cargo:rerun-if-env-changed=BRAVOLITH_ARCHIVE_DIR");
     println!("cargo:rerun-if-env-changed=PKG_CONFIG_PATH");
     let target = variable("TARGET");
-    if variable("CARGO_CFG_TARGET_ARCH") != "x86_64" || variable("CARGO_CFG_TARGET_OS") != "linux" {
+    let processor = env::var("BRAVOLITH_ARCHIVE_ARCH").unwrap_or_else(|_| "x86_64".into());
+    if variable("CARGO_CFG_TARGET_ARCH") != processor || variable("CARGO_CFG_TARGET_OS") != "linux"
+    {
         stop(&format!(
             "the proved library is compiled for x86-64 Linux, and this build is for {target}.\n\
              Build with --target x86_64-unknown-linux-gnu."

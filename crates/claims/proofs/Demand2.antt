@@ -6,7 +6,7 @@ use mathlib.Core.List.{List, [], _∷_}
 use mathlib.Core.Logic.{_⊎_}
 use contract.Monad.{fact-mono}
 use lib.ListN.{length, getD}
-use Rattle.kit.specs.Bytes.{Bytes}
+use Rattle.kit.specs.Bytes.{Bytes, bit}
 use Rattle.kit.proofs.Cases.{given}
 use Rattle.wire.specs.Distances.{InRange, distanceWord}
 use Rattle.wire.specs.declared.verdicts.Verdict.the-variants.{Accepted}

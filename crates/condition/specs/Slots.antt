@@ -1,5 +1,5 @@
 -- A slot and its coding: document 01, "Conditions" and "Telegrams", rows 12, 13 and 6; and document 02, request 1: voltage 0 has no country.
-use Prim.Native.Nat.{ℕ, _+_, _*_, _/_, _%_, _<_}
+use Prim.Native.Nat.{ℕ, _+_, _*_, _%_, _<_}
 use mathlib.Core.Path.{_≡_}
 use mathlib.Core.Bool.{Bool, true, false, cond, not, _&&_}
 use mathlib.Core.List.{List, [], _∷_, _++_}

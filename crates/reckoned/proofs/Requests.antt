@@ -1,7 +1,5 @@
 -- Document 02: every row holds, computed by the checker from the definitions; and what is listed of a line that is not fitted.
 use mathlib.Core.Path.{_≡_, refl, subst}
-use Prim.Native.Nat.{ℕ}
-use mathlib.Core.List.{List}
 use lib.Dec.{eqb}
 use Rattle.kit.specs.Each.{each}
 use Rattle.kit.specs.Ladder.{ladder}
@@ -26,7 +24,7 @@ use Rattle.arriving.specs.Arriving.{seated, seatedAll}
 use Rattle.text.specs.Decimals.{digits, decimal}
 use Rattle.listener.specs.Listeners.{carries, heardAll}
 use Rattle.listener.proofs.Valid.{picture-valid}
-use Rattle.listing_seconds.specs.Seconds.{systemWord, secondWord}
+use Rattle.listing_seconds.specs.Seconds.{systemWord}
 use Rattle.reckoned.specs.Reckoned.{AllHold, twoWords, wireBytes, ordering, heldFirst, freshRefusal}
 use Rattle.reckoned.specs.Requests.{rewritten, voltage-zero, UnfittedListed}
 use Rattle.reckoned.proofs.Paper.{_and_}
