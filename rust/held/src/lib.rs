@@ -17,6 +17,7 @@ pub mod measured;
 pub mod random;
 pub mod recording_regimes;
 pub mod regime;
+pub mod second_words;
 pub mod signal_regimes;
 pub mod tally;
 pub mod turns;

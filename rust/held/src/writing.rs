@@ -2,12 +2,11 @@
 //! length, by the desk after any lists.
 
 use crate::author::Author;
-use crate::desk_regimes::{
-    distance_edges, ends_inside, mixed_churn, refused_between, twenty_new, voltage_zero,
-};
+use crate::desk_regimes::{distance_edges, ends_inside, mixed_churn, refused_between, twenty_new};
 use crate::hold::hex;
 use crate::random::Random;
 use crate::regime::{Regime, Times};
+use crate::second_words::voltage_zero;
 use crate::tally::by_number;
 
 /// A regime of lists, with the packets that are asked for after them and the
