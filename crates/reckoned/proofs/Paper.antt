@@ -37,7 +37,7 @@ pub _and_ : {row rows : Type 0} → row → rows → row × rows
 row and rows = (row, rows)
 
 -- a row of numbers, by a test that computes
-numbers : {defined written : List ℕ} → same defined written ≡ true → defined ≡ written
+pub numbers : {defined written : List ℕ} → same defined written ≡ true → defined ≡ written
 numbers {defined} {written} = same-equal defined written
 
 -- the checker computes the rows, but for the runs of P4 and P5, which are computed in Walking.antt and Wrap.antt

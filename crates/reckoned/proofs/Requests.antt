@@ -27,16 +27,17 @@ use Rattle.listener.proofs.Valid.{picture-valid}
 use Rattle.listing_seconds.specs.Seconds.{systemWord}
 use Rattle.reckoned.specs.Reckoned.{AllHold, twoWords, wireBytes, ordering, heldFirst, freshRefusal}
 use Rattle.reckoned.specs.Requests.{rewritten, voltage-zero, UnfittedListed}
-use Rattle.reckoned.proofs.Paper.{_and_}
+use Rattle.reckoned.proofs.Paper.{_and_, numbers}
+use Rattle.reckoned.proofs.Sameness.{same}
 
 -- CR 1
 pub voltage-zero-holds : AllHold voltage-zero
-unfolding each ladder scan fold bodyOf secondHeld isConsidered isUnfitted secondAllowed orderAt listedAt placeOf isRetyped orderRows listRows restsBy isResting hasNumber nextNumber freshWith keptAmong endedEntry endedAmong seated seatedAll stepOf acceptOf tableOf verdictOf twoWords wireBytes ordering heldFirst freshRefusal rewritten readOf readRows codedAt takenBefore telegramOf bytesOf slotRows codedOf sixOf
+unfolding same each ladder scan fold bodyOf secondHeld isConsidered isUnfitted secondAllowed orderAt listedAt placeOf isRetyped orderRows listRows restsBy isResting hasNumber nextNumber freshWith keptAmong endedEntry endedAmong seated seatedAll stepOf acceptOf tableOf verdictOf twoWords wireBytes ordering heldFirst freshRefusal rewritten readOf readRows codedAt takenBefore telegramOf bytesOf slotRows codedOf sixOf
 voltage-zero-holds =
-    refl and refl and refl and refl and refl
-    and refl and refl and refl and refl
+    refl and refl and numbers refl and refl and refl
+    and refl and refl and numbers refl and numbers refl
     and refl and refl
-    and refl and refl and refl and refl
+    and numbers refl and numbers refl and numbers refl and numbers refl
     and tt
 
 pub unfitted-listed : UnfittedListed
