@@ -2,29 +2,29 @@
 -- those of a desk's list are all that it has.
 use Rattle.std.specs.Prelude.{ℕ, ◌<◌, ◌≤◌, Bool, cond, List, set}
 use Rattle.kit.specs.Loops.{fold}
-use Rattle.condition.specs.Slots.{slotCount}
-use Rattle.order_list.specs.Lists.{order_at, foundAt}
+use Rattle.condition.specs.Slots.{slot_count}
+use Rattle.order_list.specs.Lists.{order_at, found_at}
 use Rattle.order_list.specs.declared.Order.{Order}
-use Rattle.places.specs.Places.{lowestFree, isLive}
-use Rattle.numbers.specs.Numbers.{nextNumber}
-use Rattle.leaving.specs.Leaving.{bodyIn}
+use Rattle.places.specs.Places.{lowest_free, is_live}
+use Rattle.numbers.specs.Numbers.{next_number}
+use Rattle.leaving.specs.Leaving.{body_in}
 use Rattle.arriving.specs.declared.Seats.{Seats}
 
 -- D-08, D-09: a new order takes the lowest free slot and the first permitted number after the last one given; D-16: new is every order
 -- that is not live, one that ended before too
 unfoldable pub seated : (ℕ → Bool) → Order → Seats → Seats
 seated resting order seats =
-    let number = nextNumber resting seats.places seats.last in
-    cond (isLive seats.places order.number) seats
+    let number = next_number resting seats.places seats.last in
+    cond (is_live seats.places order.number) seats
     (record {
-      places = set seats.places (lowestFree seats.places) (record { order = order.number; slot = record { number = number; body = bodyIn order } });
+      places = set seats.places (lowest_free seats.places) (record { order = order.number; slot = record { number = number; body = body_in order } });
       last = number;
     })
 
 -- each order of the list from one up to another is among these orders
 abbrev pub AllFound : List ℕ → List ℕ → ℕ → ℕ → Type 0
-AllFound live list from to = (j : ℕ) → from ≤ j → j < to → foundAt live (order_at list j).number < slotCount
+AllFound live list from to = (j : ℕ) → from ≤ j → j < to → found_at live (order_at list j).number < slot_count
 
 -- D-08: in list order
-unfoldable pub seatedAll : (ℕ → Bool) → List ℕ → Seats → ℕ → Seats
-seatedAll resting list seats n = fold (λ j. seated resting (order_at list j)) seats n
+unfoldable pub seated_all : (ℕ → Bool) → List ℕ → Seats → ℕ → Seats
+seated_all resting list seats n = fold (λ j. seated resting (order_at list j)) seats n

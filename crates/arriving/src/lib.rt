@@ -2,8 +2,8 @@
 // is looked at as far as its first n orders; a desk hands in how many it has. Where no slot is free the places stay as they are: of a
 // desk that was made and a list that it accepts, every new order finds one (desk/proofs/Seating.antt).
 ghost use Rattle.std.specs.Prelude.{◌≡◌, ◌≤◌};
-ghost use Rattle.resting.specs.Rests.{isResting};
-ghost use Rattle.arriving.specs.Arriving.{AllFound, seated, seatedAll};
+ghost use Rattle.resting.specs.Rests.{is_resting};
+ghost use Rattle.arriving.specs.Arriving.{AllFound, seated, seated_all};
 
 use condition::{SLOTS, Slot};
 use order_list::Order;
@@ -19,7 +19,7 @@ pub struct Seats {
 
 // One order of the list placed, if it is new. The number that it is given is the last one given from then on.
 fn seat(seats: Seats, ended: [Ended; 160], rest: u16, step: u16, order: Order) -> Seats
-    ensures { result ≡ seated (isResting rest step ended) order seats }
+    ensures { result ≡ seated (is_resting rest step ended) order seats }
 {
     let mut places = seats.places;
     if places::place_of(places, order.number) < SLOTS {
@@ -66,7 +66,7 @@ pub fn seat_all(
     list: &[u8],
     n: u8,
 ) -> Seats
-    ensures { result ≡ seatedAll (isResting rest step ended) list.now (record { places = kept; last = last }) n }
+    ensures { result ≡ seated_all (is_resting rest step ended) list.now (record { places = kept; last = last }) n }
 {
     let mut seats = Seats { places: kept, last };
     let at_first = places::orders_of(kept);

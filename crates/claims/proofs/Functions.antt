@@ -11,22 +11,22 @@ use Rattle.wire.specs.Distances.{distance_of}
 use Rattle.wire.specs.declared.distances.Distance.{Distance}
 use Rattle.wire.specs.declared.verdicts.Verdict.{Verdict}
 use Rattle.condition.specs.declared.slots.Slot.{Slot}
-use Rattle.telegram.specs.Telegrams.{read_of, writeVerdict, written}
+use Rattle.telegram.specs.Telegrams.{read_of, write_verdict, written}
 use Rattle.telegram.specs.declared.Reading.{Reading}
 use Rattle.telegram.specs.declared.Telegram.{Telegram}
-use Rattle.desk.specs.Desks.{baseRest, freshDesk, acceptOf, table_of, packetOf}
+use Rattle.desk.specs.Desks.{base_rest, fresh_desk, accept_of, table_of, packet_of}
 use Rattle.desk.specs.declared.Answer.{Answer}
 use Rattle.desk.specs.declared.Desk.{Desk}
-use Rattle.listener.specs.Listeners.{carries, freshListener, hearOf}
-use Rattle.listener.specs.Answers.{hearingOf}
+use Rattle.listener.specs.Listeners.{carries, fresh_listener, hear_of}
+use Rattle.listener.specs.Answers.{hearing_of}
 use Rattle.listener.specs.Lent.{HeardIn}
 use Rattle.listener.specs.declared.Answer as Vehicle
 use Rattle.listener.specs.declared.Heard.{Heard}
 use Rattle.listener.specs.declared.Listener.{Listener}
-use Rattle.signals.specs.Signals.{freshSignals, updateOf}
+use Rattle.signals.specs.Signals.{fresh_signals, update_of}
 use Rattle.signals.specs.declared.Answer as Train
 use Rattle.signals.specs.declared.Signals.{Signals}
-use Rattle.signals.specs.Answers.{noted_of, updatingOf}
+use Rattle.signals.specs.Answers.{noted_of, updating_of}
 use Rattle.signals.specs.declared.Updated.{Updated}
 use Rattle.claims.specs.Functions.{OfDistance, OfRead, OfWriteTelegram, OfFreshDesk, OfAccept, OfTable, OfWrite, OfFreshListener, OfFreshSignals, OfHear, OfHearIn, OfUpdate, OfUpdateLent}
 
@@ -34,8 +34,8 @@ use Rattle.claims.specs.Functions.{OfDistance, OfRead, OfWriteTelegram, OfFreshD
 abbrev lent : List ℕ → Bor (List ℕ)
 lent bytes = record { now = bytes; ref_ptr = (0, 0); ghost_name = 0 }
 
-pub distance-says : (Such : ℕ → Distance → Type 0) → OfDistance Such ↔ ((word : ℕ) → Such word (distance_of word))
-distance-says Such = (
+pub distance_says : (Such : ℕ → Distance → Type 0) → OfDistance Such ↔ ((word : ℕ) → Such word (distance_of word))
+distance_says Such = (
   λ promised word. promised tt (word, tt) (distance_of word) (tt, tt) refl,
   λ plain κs (word, _) distance lasts p. subst⁻¹ (Such word) p (plain word),
 )
@@ -46,15 +46,15 @@ read-says Such = (
   λ plain κs (bytes, _) reading lasts p. subst⁻¹ (Such bytes.now) p (plain bytes.now),
 )
 
-pub fresh-desk-says : (Such : Desk → Type 0) → OfFreshDesk Such ↔ Such freshDesk
-fresh-desk-says Such = (
-  λ promised. promised tt tt freshDesk tt refl,
+pub fresh_desk-says : (Such : Desk → Type 0) → OfFreshDesk Such ↔ Such fresh_desk
+fresh_desk-says Such = (
+  λ promised. promised tt tt fresh_desk tt refl,
   λ plain κs _ desk lasts p. subst⁻¹ Such p plain,
 )
 
-pub accept-says : (Such : Desk → List ℕ → Answer → Type 0) → OfAccept Such ↔ ((desk : Desk) (list : List ℕ) → Such desk list (acceptOf baseRest desk list))
+pub accept-says : (Such : Desk → List ℕ → Answer → Type 0) → OfAccept Such ↔ ((desk : Desk) (list : List ℕ) → Such desk list (accept_of base_rest desk list))
 accept-says Such = (
-  λ promised desk list. promised ([], tt) (desk, (lent list, tt)) (acceptOf baseRest desk list) (tt, (tt, tt)) refl,
+  λ promised desk list. promised ([], tt) (desk, (lent list, tt)) (accept_of base_rest desk list) (tt, (tt, tt)) refl,
   λ plain κs (desk, (list, _)) answer lasts p. subst⁻¹ (Such desk list.now) p (plain desk list.now),
 )
 
@@ -64,55 +64,55 @@ table-says Such = (
   λ plain κs (desk, _) table lasts p. subst⁻¹ (Such desk) p (plain desk),
 )
 
-pub fresh-listener-says : (Such : Listener → Type 0) → OfFreshListener Such ↔ Such freshListener
-fresh-listener-says Such = (
-  λ promised. promised tt tt freshListener tt refl,
+pub fresh_listener-says : (Such : Listener → Type 0) → OfFreshListener Such ↔ Such fresh_listener
+fresh_listener-says Such = (
+  λ promised. promised tt tt fresh_listener tt refl,
   λ plain κs _ listener lasts p. subst⁻¹ Such p plain,
 )
 
-pub fresh-signals-says : (Such : Signals → Type 0) → OfFreshSignals Such ↔ Such freshSignals
-fresh-signals-says Such = (
-  λ promised. promised tt tt freshSignals tt refl,
+pub fresh_signals-says : (Such : Signals → Type 0) → OfFreshSignals Such ↔ Such fresh_signals
+fresh_signals-says Such = (
+  λ promised. promised tt tt fresh_signals tt refl,
   λ plain κs _ signals lasts p. subst⁻¹ Such p plain,
 )
 
 -- a buffer that may be changed: its last value is as much of the outcome as the answer is
 pub write-telegram-says : (Such : Telegram → List ℕ → Verdict → List ℕ → Type 0)
-    → OfWriteTelegram Such ↔ ((telegram : Telegram) (buffer : List ℕ) → Such telegram buffer (writeVerdict telegram buffer) (written telegram buffer))
+    → OfWriteTelegram Such ↔ ((telegram : Telegram) (buffer : List ℕ) → Such telegram buffer (write_verdict telegram buffer) (written telegram buffer))
 write-telegram-says Such = (
-  λ promised telegram buffer. promised ([], tt) (telegram, (lent buffer, tt)) (writeVerdict telegram buffer) (tt, (written telegram buffer, tt)) (refl, refl),
+  λ promised telegram buffer. promised ([], tt) (telegram, (lent buffer, tt)) (write_verdict telegram buffer) (tt, (written telegram buffer, tt)) (refl, refl),
   λ plain κs (telegram, (buffer, _)) verdict (_, (after, _)) p.
-      subst⁻¹ (λ v. Such telegram buffer.now v after) p.0 (subst⁻¹ (Such telegram buffer.now (writeVerdict telegram buffer.now)) p.1 (plain telegram buffer.now)),
+      subst⁻¹ (λ v. Such telegram buffer.now v after) p.0 (subst⁻¹ (Such telegram buffer.now (write_verdict telegram buffer.now)) p.1 (plain telegram buffer.now)),
 )
 
 pub write-says : (Such : Desk → ℕ → List ℕ → Verdict → List ℕ → Type 0)
-    → OfWrite Such ↔ ((desk : Desk) (packet : ℕ) (buffer : List ℕ) → Such desk packet buffer (writeVerdict (packetOf desk packet) buffer) (written (packetOf desk packet) buffer))
+    → OfWrite Such ↔ ((desk : Desk) (packet : ℕ) (buffer : List ℕ) → Such desk packet buffer (write_verdict (packet_of desk packet) buffer) (written (packet_of desk packet) buffer))
 write-says Such = (
   λ promised desk packet buffer.
-      promised ([], tt) (desk, (packet, (lent buffer, tt))) (writeVerdict (packetOf desk packet) buffer) (tt, (tt, (written (packetOf desk packet) buffer, tt))) (refl, refl),
+      promised ([], tt) (desk, (packet, (lent buffer, tt))) (write_verdict (packet_of desk packet) buffer) (tt, (tt, (written (packet_of desk packet) buffer, tt))) (refl, refl),
   λ plain κs (desk, (packet, (buffer, _))) verdict (_, (_, (after, _))) p.
       subst⁻¹ (λ v. Such desk packet buffer.now v after) p.0
-      (subst⁻¹ (Such desk packet buffer.now (writeVerdict (packetOf desk packet) buffer.now)) p.1 (plain desk packet buffer.now)),
+      (subst⁻¹ (Such desk packet buffer.now (write_verdict (packet_of desk packet) buffer.now)) p.1 (plain desk packet buffer.now)),
 )
 
 -- ---- where an answer is an enum: of each answer that the contract's equation allows
 
 pub hear-says : (Such : Listener → List ℕ → Heard → Type 0)
-    → OfHear Such ↔ ((listener : Listener) (telegram : List ℕ) (heard : Heard) → hearingOf heard ≡ hearOf carries listener (read_of telegram) → Such listener telegram heard)
+    → OfHear Such ↔ ((listener : Listener) (telegram : List ℕ) (heard : Heard) → hearing_of heard ≡ hear_of carries listener (read_of telegram) → Such listener telegram heard)
 hear-says Such = (
   λ promised listener telegram heard p. promised ([], tt) (listener, (lent telegram, tt)) heard (tt, (tt, tt)) p,
   λ plain κs (listener, (telegram, _)) heard lasts p. plain listener telegram.now heard p,
 )
 
-pub hear-in-says : (Such : List ℕ → List ℕ → Vehicle.Answer → List ℕ → Type 0)
+pub hear_in-says : (Such : List ℕ → List ℕ → Vehicle.Answer → List ℕ → Type 0)
     → OfHearIn Such ↔ ((memory telegram : List ℕ) (answer : Vehicle.Answer) (after : List ℕ) → HeardIn carries memory telegram answer after → Such memory telegram answer after)
-hear-in-says Such = (
+hear_in-says Such = (
   λ promised memory telegram answer after p. promised ([], ([], tt)) (lent memory, (lent telegram, tt)) answer (after, (tt, tt)) p,
   λ plain κs (memory, (telegram, _)) answer (after, _) p. plain memory.now telegram.now answer after p,
 )
 
 pub update-says : (Such : Signals → Bool → List ℕ → Updated → Type 0)
-    → OfUpdate Such ↔ ((signals : Signals) (present : Bool) (telegram : List ℕ) (updated : Updated) → updatingOf updated ≡ updateOf signals present telegram → Such signals present telegram updated)
+    → OfUpdate Such ↔ ((signals : Signals) (present : Bool) (telegram : List ℕ) (updated : Updated) → updating_of updated ≡ update_of signals present telegram → Such signals present telegram updated)
 update-says Such = (
   λ promised signals present telegram updated p. promised ([], tt) (signals, (present, (lent telegram, tt))) updated (tt, (tt, (tt, tt))) p,
   λ plain κs (signals, (present, (telegram, _))) updated lasts p. plain signals present telegram.now updated p,
@@ -122,7 +122,7 @@ update-says Such = (
 -- model of the machine
 pub update-lent-says : (Such : Signals → Bool → List ℕ → Train.Answer → Signals → Type 0)
     → ((signals : Signals) (present : Bool) (telegram : List ℕ) (answer : Train.Answer) (after : Signals)
-    → noted_of answer ≡ (updateOf signals present telegram).noted → after ≡ (updateOf signals present telegram).signals → Such signals present telegram answer after)
+    → noted_of answer ≡ (update_of signals present telegram).noted → after ≡ (update_of signals present telegram).signals → Such signals present telegram answer after)
     → OfUpdateLent Such
 update-lent-says Such plain M 𝓤 𝓛 mem run κs (held, (present, (telegram, _))) ghost answer (after, _) =
     fact_mono 𝓤 _ _ (λ p. plain held.now present telegram.now answer after p.0 p.1)

@@ -6,14 +6,14 @@ use mathlib.Core.Bool.{Bool, true, false, ◌||◌}
 use mathlib.Core.List.{List, [], ◌∷◌}
 use lib.Dec.{eqb}
 use native.Mathlib.Omega.{arith}
-use Rattle.kit.specs.Loops.{howMany, fold}
-use Rattle.telegram.specs.Tables.{packets, firstPacket}
+use Rattle.kit.specs.Loops.{how_many, fold}
+use Rattle.telegram.specs.Tables.{packets, first_packet}
 use Rattle.telegram.specs.declared.Telegram.{Telegram}
-use Rattle.desk.specs.Desks.{packetOf}
-use Rattle.claims.specs.Calls.{stepsMade, deskOf}
-use Rattle.claims.specs.Hearings.{Item, sent, spoilt, wasHeard, wholes, first_or, NoneAfter, newestOr, farthest}
-use Rattle.claims.specs.Ends.{Binding, Premises, nothing, in-turn}
-use Rattle.claims.specs.Regular.{fiveOf, wholly, Spaced}
+use Rattle.desk.specs.Desks.{packet_of}
+use Rattle.claims.specs.Calls.{steps_made, desk_of}
+use Rattle.claims.specs.Hearings.{Item, sent, spoilt, was_heard, wholes, first_or, NoneAfter, newest_or, farthest}
+use Rattle.claims.specs.Ends.{Binding, Premises, nothing, in_turn}
+use Rattle.claims.specs.Regular.{five_of, wholly, Spaced}
 use Rattle.claims.proofs.Sequences.{heard-here, heard-above, whole-known, wholes-part, wholes-new}
 
 -- one packet more
@@ -22,7 +22,7 @@ also p packet q = eqb q p || packet q
 
 -- whether five of the packets 3 to 7 are among these
 abbrev five : (ℕ → Bool) → Bool
-five packet = eqb (howMany (λ k. packet (firstPacket + k)) packets) packets
+five packet = eqb (how_many (λ k. packet (first_packet + k)) packets) packets
 
 none_after : {Message : Type 0} (n m : ℕ) (r : List (Item Message)) → NoneAfter m r → m ≤ n → NoneAfter n r
 none_after n m [] b h = tt
@@ -35,14 +35,14 @@ module _ (rest reach : ℕ) {Message : Type 0} (binding : Binding Message) (call
     premises : Premises rest reach binding calls r
     after : NoneAfter n r
     same : wholes r ≡ whole
-    bound : n ≤ newestOr (first_or n r) whole + farthest
-    known : (q : ℕ) → wasHeard r n q ≡ packet q
+    bound : n ≤ newest_or (first_or n r) whole + farthest
+    known : (q : ℕ) → was_heard r n q ≡ packet q
 
-  module _ {n : ℕ} {whole : List ℕ} {packet : ℕ → Bool} {r : List (Item Message)} (part : Part n whole packet r) (made : n ≤ stepsMade rest calls) (p : ℕ) (low : 3 ≤ p) (high : p ≤ 7) where
+  module _ {n : ℕ} {whole : List ℕ} {packet : ℕ → Bool} {r : List (Item Message)} (part : Part n whole packet r) (made : n ≤ steps_made rest calls) (p : ℕ) (low : 3 ≤ p) (high : p ≤ 7) where
     heard-next : Premises rest reach binding calls (sent n p ∷ r)
-    heard-next = in-turn n p part.premises (made, low, high, all (packetOf (deskOf rest calls n) p)) part.after (rw part.same part.bound)
+    heard-next = in_turn n p part.premises (made, low, high, all (packet_of (desk_of rest calls n) p)) part.after (rw part.same part.bound)
 
-    known_next : (q : ℕ) → wasHeard (sent n p ∷ r) n q ≡ also p packet q
+    known_next : (q : ℕ) → was_heard (sent n p ∷ r) n q ≡ also p packet q
     known_next q = heard-here n p r q ∙ ap (λ t. eqb q p || t) (part.known q)
 
     -- a fifth packet is still to come
@@ -66,9 +66,9 @@ module _ (rest reach : ℕ) {Message : Type 0} (binding : Binding Message) (call
     )
 
   -- a whole table more
-  fifth : (n : ℕ) (whole : List ℕ) (r : List (Item Message)) → n ≤ stepsMade rest calls → Part n whole (λ q. false) r
-      → Premises rest reach binding calls (fiveOf n r) × NoneAfter n (fiveOf n r) × (wholes (fiveOf n r) ≡ n ∷ whole)
-  unfolding howMany fold
+  fifth : (n : ℕ) (whole : List ℕ) (r : List (Item Message)) → n ≤ steps_made rest calls → Part n whole (λ q. false) r
+      → Premises rest reach binding calls (five_of n r) × NoneAfter n (five_of n r) × (wholes (five_of n r) ≡ n ∷ whole)
+  unfolding how_many fold
   fifth n whole r made part =
       let p3 = part-more part made 3 (omega arith) (omega arith) refl in
       let p4 = part-more p3 made 4 (omega arith) (omega arith) refl in
@@ -81,8 +81,8 @@ module _ (rest reach : ℕ) {Message : Type 0} (binding : Binding Message) (call
   Met (n ∷ before) =
       Premises rest reach binding calls (wholly Message (n ∷ before)) × NoneAfter n (wholly Message (n ∷ before)) × (wholes (wholly Message (n ∷ before)) ≡ n ∷ before)
 
-  met : (steps : List ℕ) → Spaced (stepsMade rest calls) steps → Met steps
-  unfolding wholly wholes wasHeard
+  met : (steps : List ℕ) → Spaced (steps_made rest calls) steps → Met steps
+  unfolding wholly wholes was_heard
   met [] s = tt
   met (n ∷ []) made = fifth n [] [] made (record { premises = nothing; after = tt; same = refl; bound = omega arith; known = λ q. refl })
   met (n ∷ m ∷ before) (made, later, near, s) =
@@ -100,7 +100,7 @@ module _ (rest reach : ℕ) {Message : Type 0} (binding : Binding Message) (call
           })
 
   -- the premises are met, and the tables of these steps are those heard whole
-  pub regular : (n : ℕ) (before : List ℕ) → Spaced (stepsMade rest calls) (n ∷ before)
+  pub regular : (n : ℕ) (before : List ℕ) → Spaced (steps_made rest calls) (n ∷ before)
       → Premises rest reach binding calls (wholly Message (n ∷ before)) × (wholes (wholly Message (n ∷ before)) ≡ n ∷ before)
   regular n before s = go (met (n ∷ before) s)
     where

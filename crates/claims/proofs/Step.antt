@@ -10,19 +10,19 @@ use native.Mathlib.Omega.{arith}
 use borrow.Author.Tests.{eqb-true, eqb-false, ltb-true, ltb-false}
 use Rattle.kit.proofs.Cases.{on, clash, given}
 use Rattle.kit.proofs.Member.{pigeonhole}
-use Rattle.wire.specs.Verdicts.{ruledAccepted, rulingOf}
-use Rattle.wire.proofs.Answers.{ruling-apart, verdict-number}
+use Rattle.wire.specs.Verdicts.{ruled_accepted, ruling_of}
+use Rattle.wire.proofs.Answers.{ruling_apart, verdict-number}
 use Rattle.wire.specs.declared.verdicts.Verdict.TheVariants.{Accepted as passed, Refused}
-use Rattle.places.specs.Places.{freePlace, placeAt}
-use Rattle.places.proofs.Live.{live-when}
-use Rattle.orders.specs.Orders.{listRefusal}
-use Rattle.numbers.specs.Numbers.{nextNumber}
+use Rattle.places.specs.Places.{free_place, place_at}
+use Rattle.places.proofs.Live.{live_when}
+use Rattle.orders.specs.Orders.{list_refusal}
+use Rattle.numbers.specs.Numbers.{next_number}
 use Rattle.numbers.proofs.Search.{number-none, permitted-only}
-use Rattle.resting.specs.Rests.{isResting}
+use Rattle.resting.specs.Rests.{is_resting}
 use Rattle.resting.specs.declared.Ended.{Ended}
 use Rattle.resting.proofs.Rested.{covers-resting}
-use Rattle.desk.specs.Desks.{baseRest as eight, freshWith, acceptOf, Made, called}
-use Rattle.desk.proofs.Runs.{deskRun, AllAccepted, EndedAgo}
+use Rattle.desk.specs.Desks.{base_rest as eight, fresh_with, accept_of, Made, called}
+use Rattle.desk.proofs.Runs.{desk_run, AllAccepted, EndedAgo}
 use Rattle.desk.specs.Steps.{step_of}
 use Rattle.desk.specs.declared.Answer.{Answer}
 use Rattle.desk.specs.declared.Desk.{Desk}
@@ -30,59 +30,59 @@ use Rattle.desk.proofs.Making.{accepts, made-sound}
 use Rattle.desk.proofs.Promises as promises
 use Rattle.desk.proofs.Seating.{inside, ordered}
 use Rattle.desk.proofs.Tracing.{fresh_at, older}
-use Rattle.claims.specs.Calls.{deskAfter, accepted, stepsMade, up_to, deskOf}
+use Rattle.claims.specs.Calls.{desk_after, accepted, steps_made, up_to, desk_of}
 use Rattle.claims.specs.Step.{number_in, EndedIn, NumberRests, OneStep, TheStep}
 use Rattle.claims.proofs.Ended.{ending_of, ended-then, rests-kept}
-use Rattle.claims.proofs.History.{calls-made, desk-run}
+use Rattle.claims.proofs.History.{calls_made, desk_run_lem}
 use Rattle.claims.proofs.StepDetermined.{alike}
 use Rattle.claims.proofs.OneStep.{fresh-says, one-step}
 
 -- R-26: the calls of a fresh desk
-made-calls : {desk : Desk} → Made desk → (calls : List (List ℕ)) × (desk ≡ deskAfter eight calls)
-unfolding deskAfter
-made-calls Made.made-fresh = ([], refl)
-made-calls (called {desk} m list) = given (made-calls m) (λ (calls, e). (list ∷ calls, ap (λ (d : Desk). (acceptOf eight d list).desk) e))
+made_calls : {desk : Desk} → Made desk → (calls : List (List ℕ)) × (desk ≡ desk_after eight calls)
+unfolding desk_after
+made_calls Made.made-fresh = ([], refl)
+made_calls (called {desk} m list) = given (made_calls m) (λ (calls, e). (list ∷ calls, ap (λ (d : Desk). (accept_of eight d list).desk) e))
 
-fresh-after : freshWith eight ≡ deskAfter eight []
-unfolding deskAfter
+fresh-after : fresh_with eight ≡ desk_after eight []
+unfolding desk_after
 fresh-after = refl
 
-one-call-more : (calls : List (List ℕ)) (list : List ℕ) → (acceptOf eight (deskAfter eight calls) list).desk ≡ deskAfter eight (list ∷ calls)
-unfolding deskAfter
-one-call-more calls list = refl
+one_call_more : (calls : List (List ℕ)) (list : List ℕ) → (accept_of eight (desk_after eight calls) list).desk ≡ desk_after eight (list ∷ calls)
+unfolding desk_after
+one_call_more calls list = refl
 
 -- D-02: by the contract, an accepted list makes one step
-unrefused-when : (desk : Desk) (list : List ℕ) → (acceptOf eight desk list).verdict ≡ passed → listRefusal desk.places list ≡ 0
-unfolding acceptOf
-unrefused-when desk list e = verdict-number passed e
+unrefused_when : (desk : Desk) (list : List ℕ) → (accept_of eight desk list).verdict ≡ passed → list_refusal desk.places list ≡ 0
+unfolding accept_of
+unrefused_when desk list e = verdict-number passed e
 
-steps-one : (calls : List (List ℕ)) (desk : Desk) (list : List ℕ) (answer : Answer) → answer ≡ acceptOf eight desk list → desk ≡ deskAfter eight calls
+steps-one : (calls : List (List ℕ)) (desk : Desk) (list : List ℕ) (answer : Answer) → answer ≡ accept_of eight desk list → desk ≡ desk_after eight calls
     → answer.verdict ≡ passed → OneStep calls desk list answer.desk
 steps-one calls desk list answer is same accepts-it =
-    let history = desk-run eight calls in
+    let history = desk_run_lem eight calls in
     let lists = accepted eight calls in
-    let before : desk ≡ deskRun eight eight lists = same ∙ history.0 in
-    let zero-refusal : listRefusal desk.places list ≡ 0 = unrefused-when desk list (ap (λ (a : Answer). a.verdict) (sym is) ∙ accepts-it) in
-    let after : answer.desk ≡ step_of eight (deskRun eight eight lists) list = ap (λ (a : Answer). a.desk) (is ∙ accepts eight desk list zero-refusal) ∙ ap (λ (d : Desk). step_of eight d list) before in
+    let before : desk ≡ desk_run eight eight lists = same ∙ history.0 in
+    let zero-refusal : list_refusal desk.places list ≡ 0 = unrefused_when desk list (ap (λ (a : Answer). a.verdict) (sym is) ∙ accepts-it) in
+    let after : answer.desk ≡ step_of eight (desk_run eight eight lists) list = ap (λ (a : Answer). a.desk) (is ∙ accepts eight desk list zero-refusal) ∙ ap (λ (d : Desk). step_of eight d list) before in
     subst (λ (d : Desk). OneStep calls d list answer.desk) (sym before)
-    (subst (λ (d : Desk). OneStep calls (deskRun eight eight lists) list d) (sym after)
-    (one-step calls list (subst (λ (d : Desk). listRefusal d.places list ≡ 0) before zero-refusal)))
+    (subst (λ (d : Desk). OneStep calls (desk_run eight eight lists) list d) (sym after)
+    (one-step calls list (subst (λ (d : Desk). list_refusal d.places list ≡ 0) before zero-refusal)))
 
 -- D-12: a number that rests is 1 or more
 rests-positive : (calls : List (List ℕ)) (number : ℕ) → NumberRests calls number → 1 ≤ number
 rests-positive calls number (f, (n, order, i, is, made, (some, small, same), had, absent), young) =
-    omega (arith, had, ((made-sound (calls-made (up_to eight calls n))).orderly.numbered i (omega arith)).0)
+    omega (arith, had, ((made-sound (calls_made (up_to eight calls n))).orderly.numbered i (omega arith)).0)
 
 module _ (calls : List (List ℕ)) where
   abbrev desk : Desk
-  desk = deskAfter eight calls
+  desk = desk_after eight calls
 
   kept : Made desk
-  kept = calls-made calls
+  kept = calls_made calls
 
-  resting : (number : ℕ) → 1 ≤ number → (isResting eight desk.step desk.ended number ≡ true) ↔ NumberRests calls number
+  resting : (number : ℕ) → 1 ≤ number → (is_resting eight desk.step desk.ended number ≡ true) ↔ NumberRests calls number
   resting number p =
-      subst (λ (d : Desk). (isResting eight d.step d.ended number ≡ true) ↔ NumberRests calls number) (sym (desk-run eight calls).0)
+      subst (λ (d : Desk). (is_resting eight d.step d.ended number ≡ true) ↔ NumberRests calls number) (sym (desk_run_lem eight calls).0)
       (rests-kept calls (accepted eight calls) refl number p)
 
   -- D-14
@@ -105,8 +105,8 @@ module _ (calls : List (List ℕ)) where
   -- D-15
   one-permitted : (number : ℕ) × (1 ≤ number) × (number ≤ 255) × ((i : ℕ) → number_in desk i ≡ number → ⊥) × (NumberRests calls number → ⊥)
   one-permitted =
-      let test = isResting eight desk.step desk.ended in
-      let number = nextNumber test desk.places desk.last in
+      let test = is_resting eight desk.step desk.ended in
+      let number = next_number test desk.places desk.last in
       let range = promises.found-range kept in
       given (permitted-only test desk.places number (promises.number-found kept))
       (λ (idle, rested). (
@@ -120,47 +120,47 @@ module _ (calls : List (List ℕ)) where
       ))
 
   -- D-13
-  eight-tables : (f number : ℕ) → EndedIn calls f number → (m i : ℕ) → f ≤ m → m - f ≤ 7 → m ≤ stepsMade eight calls → number_in (deskOf eight calls m) i ≡ number → ⊥
-  eight-tables f number ended m i late soon made same =
+  eight_tables : (f number : ℕ) → EndedIn calls f number → (m i : ℕ) → f ≤ m → m - f ≤ 7 → m ≤ steps_made eight calls → number_in (desk_of eight calls m) i ≡ number → ⊥
+  eight_tables f number ended m i late soon made same =
       let upward : f + (m - f) ≡ m = omega arith in
       let lists = accepted eight (up_to eight calls m) in
-      let run = desk-run eight (up_to eight calls m) in
+      let run = desk_run_lem eight (up_to eight calls m) in
       given (ending_of lists number (m - f) (subst (λ n. EndedAgo eight eight (accepted eight (up_to eight calls n)) number (m - f)) upward ((ended-then calls f (m - f) number (omega arith)).0 ended)))
       (λ it.
-      promises.eight-tables it.between it.older it.ending it.i i (subst (AllAccepted eight eight) it.joins run.1) (omega (arith, it.many)) it.live
+      promises.eight_tables it.between it.older it.ending it.i i (subst (AllAccepted eight eight) it.joins run.1) (omega (arith, it.many)) it.live
       it.absent
-      (ap (λ (l : List (List ℕ)). number_in (deskRun eight eight l) i) (sym it.joins) ∙ (ap (λ (d : Desk). number_in d i) (sym run.0) ∙ (same ∙ sym it.had))))
+      (ap (λ (l : List (List ℕ)). number_in (desk_run eight eight l) i) (sym it.joins) ∙ (ap (λ (d : Desk). number_in d i) (sym run.0) ∙ (same ∙ sym it.had))))
 
 -- D-17: after an empty list each slot is free
 module _ {desk : Desk} (m : Made desk) where
-  empties : (i : ℕ) → placeAt (acceptOf eight desk []).desk.places i ≡ freePlace
+  empties : (i : ℕ) → place_at (accept_of eight desk []).desk.places i ≡ free_place
   empties i =
-      let places = (acceptOf eight desk []).desk.places in
+      let places = (accept_of eight desk []).desk.places in
       let orderly = (made-sound (called m [])).orderly in
       orderly.free i
-      (on (eqb (placeAt places i).order 0)
-      (λ e. eqb-true (placeAt places i).order 0 e)
+      (on (eqb (place_at places i).order 0)
+      (λ e. eqb-true (place_at places i).order 0 e)
       (λ e.
-      let some : 1 ≤ (placeAt places i).order = omega (arith, eqb-false (placeAt places i).order 0 e) in
-      absurd (clash (live-when places (placeAt places i).order i (inside orderly i some) refl) (promises.empty-ends m (placeAt places i).order some))))
+      let some : 1 ≤ (place_at places i).order = omega (arith, eqb-false (place_at places i).order 0 e) in
+      absurd (clash (live_when places (place_at places i).order i (inside orderly i some) refl) (promises.empty-ends m (place_at places i).order some))))
 
 pub step : TheStep
 step =
     record {
       fresh = λ κs handed desk lasts p.
-          subst (λ (d : Desk). (d ≡ deskAfter eight []) × (d.step ≡ 0) × (d.last ≡ 0) × ((i : ℕ) → placeAt d.places i ≡ freePlace)) (sym p)
+          subst (λ (d : Desk). (d ≡ desk_after eight []) × (d.step ≡ 0) × (d.last ≡ 0) × ((i : ℕ) → place_at d.places i ≡ free_place)) (sym p)
           (fresh-after, fresh-says.0, fresh-says.1, fresh_at eight);
       goes_on = λ κs (desk, (list, _)) answer lasts p calls same.
-          ap (λ (a : Answer). a.desk) p ∙ (ap (λ (d : Desk). (acceptOf eight d list.now).desk) same ∙ one-call-more calls list.now);
-      by-calls = λ desk. (made-calls, λ (calls, e). subst Made (sym e) (calls-made calls));
-      steps-so = λ κs (desk, (list, _)) answer lasts p calls same accepts-it. steps-one calls desk list.now answer p same (ruling-apart answer.verdict passed accepts-it);
-      determined = λ calls list one other. alike calls (deskAfter eight calls) list one other (made-sound (calls-made calls)).below;
-      eight-tables = λ calls f number ended m i late soon. eight-tables calls f number ended m i late (omega arith);
+          ap (λ (a : Answer). a.desk) p ∙ (ap (λ (d : Desk). (accept_of eight d list.now).desk) same ∙ one_call_more calls list.now);
+      by_calls = λ desk. (made_calls, λ (calls, e). subst Made (sym e) (calls_made calls));
+      steps_so = λ κs (desk, (list, _)) answer lasts p calls same accepts-it. steps-one calls desk list.now answer p same (ruling_apart answer.verdict passed accepts-it);
+      determined = λ calls list one other. alike calls (desk_after eight calls) list one other (made-sound (calls_made calls)).below;
+      eight_tables = λ calls f number ended m i late soon. eight_tables calls f number ended m i late (omega arith);
       few-rest = λ calls numbers different rest_all. omega (arith, few-rest calls numbers different rest_all);
       one-permitted = one-permitted;
       empty = λ κs (desk, (list, _)) answer lasts p m none.
-          subst (λ (a : Answer). (rulingOf a.verdict ≡ ruledAccepted) × ((i : ℕ) → placeAt a.desk.places i ≡ freePlace)) (sym (p ∙ ap (acceptOf eight desk) none))
-          (ap rulingOf (promises.empty-accepted m), empties m);
+          subst (λ (a : Answer). (ruling_of a.verdict ≡ ruled_accepted) × ((i : ℕ) → place_at a.desk.places i ≡ free_place)) (sym (p ∙ ap (accept_of eight desk) none))
+          (ap ruling_of (promises.empty-accepted m), empties m);
       refused = λ κs (desk, (list, _)) answer lasts p number e.
-          ap (λ (a : Answer). a.desk) p ∙ promises.refused-unchanged desk list.now number (ap (λ (a : Answer). a.verdict) (sym p) ∙ ruling-apart answer.verdict (Refused number) e);
+          ap (λ (a : Answer). a.desk) p ∙ promises.refused-unchanged desk list.now number (ap (λ (a : Answer). a.verdict) (sym p) ∙ ruling_apart answer.verdict (Refused number) e);
     }

@@ -10,13 +10,13 @@ use lib.Dec.{eqb, ltb}
 use native.Mathlib.Omega.{arith}
 use borrow.Author.Tests.{eqb-true, eqb-false, ltb-true, ltb-false}
 use Rattle.kit.proofs.Cases.{on, clash, given}
-use Rattle.condition.specs.Slots.{slotCount, codedOf, settled}
-use Rattle.order_list.specs.Lists.{order_at, orderCount}
-use Rattle.places.specs.Places.{placeAt, isLive}
+use Rattle.condition.specs.Slots.{slot_count, coded_of, settled}
+use Rattle.order_list.specs.Lists.{order_at, order_count}
+use Rattle.places.specs.Places.{place_at, is_live}
 use Rattle.places.specs.declared.Place.{Place}
-use Rattle.resting.specs.Rests.{isResting}
+use Rattle.resting.specs.Rests.{is_resting}
 use Rattle.wire.specs.Steps.{steps}
-use Rattle.desk.specs.Desks.{baseRest as eight}
+use Rattle.desk.specs.Desks.{base_rest as eight}
 use Rattle.desk.specs.declared.Desk.{Desk}
 use Rattle.claims.specs.Calls.{Present}
 use Rattle.claims.specs.Step.{HasSlot, Live, number_in, IsNew, TakenAtTurn, LastGiven, none_yet, passing, giving, Between, NewOrder, OneStep, Alike}
@@ -57,9 +57,9 @@ module _ (calls : List (List ℕ)) (before : Desk) (list : List ℕ) where
   -- ---- one turn
 
   module _ (one other : Desk) (first : OneStep calls before list one) (second : OneStep calls before list other) (j : ℕ) (agree : Agree one other j) where
-    taken-too : (k : ℕ) → TakenAtTurn before list one j k → TakenAtTurn before list other j k × (number_in one k ≡ number_in other k)
-    taken-too k (inl (order, has, present)) = (inl (order, has, present), (first.stay.keeps order k has present).1 ∙ sym (second.stay.keeps order k has present).1)
-    taken-too k (inr (m, below, new, has)) =
+    taken_too : (k : ℕ) → TakenAtTurn before list one j k → TakenAtTurn before list other j k × (number_in one k ≡ number_in other k)
+    taken_too k (inl (order, has, present)) = (inl (order, has, present), (first.stay.keeps order k has present).1 ∙ sym (second.stay.keeps order k has present).1)
+    taken_too k (inr (m, below, new, has)) =
         given (agree m below new)
         (λ (i, here, there, same).
         let e : i ≡ k = first.stay.single (named m) i k here has in
@@ -88,12 +88,12 @@ module _ (calls : List (List ℕ)) (before : Desk) (list : List ℕ) where
     that = second.arrive.new j new
 
     no_lower : this.slot < that.slot → ⊥
-    no_lower less = this.free (taken-too other one second first j (swap one other j agree) this.slot (that.lowest this.slot less)).0
+    no_lower less = this.free (taken_too other one second first j (swap one other j agree) this.slot (that.lowest this.slot less)).0
 
-    no-sooner : Between that.last (number_in one this.slot) (number_in other that.slot) → ⊥
-    no-sooner between =
+    no_sooner : Between that.last (number_in one this.slot) (number_in other that.slot) → ⊥
+    no_sooner between =
         that.first (number_in one this.slot) this.range.0 this.range.1 between
-        (λ k t e. given (taken-too other one second first j (swap one other j agree) k t) (λ (t-too, same). this.permitted.0 k t-too (sym same ∙ e)), this.permitted.1)
+        (λ k t e. given (taken_too other one second first j (swap one other j agree) k t) (λ (t-too, same). this.permitted.0 k t-too (sym same ∙ e)), this.permitted.1)
 
   module _ (one other : Desk) (first : OneStep calls before list one) (second : OneStep calls before list other) where
     next : (j : ℕ) → Agree one other j → (new : IsNew before list j)
@@ -124,9 +124,9 @@ module _ (calls : List (List ℕ)) (before : Desk) (list : List ℕ) where
         last = last-same one other first second j agree this.last-given that.last-given
 
         clashes : Between that.last (number_in one this.slot) (number_in other that.slot) ⊎ Between that.last (number_in other that.slot) (number_in one this.slot) → ⊥
-        clashes (inl b) = no-sooner one other first second j agree new b
+        clashes (inl b) = no_sooner one other first second j agree new b
         clashes (inr b) =
-            no-sooner other one second first j (swap one other j agree) new
+            no_sooner other one second first j (swap one other j agree) new
             (subst (λ n. Between n (number_in other that.slot) (number_in one this.slot)) (sym last) b)
 
         number : number_in one this.slot ≡ number_in other that.slot
@@ -159,7 +159,7 @@ module _ (calls : List (List ℕ)) (before : Desk) (list : List ℕ) where
 
         go : Present list order → HasSlot other order i × (number_in one i ≡ number_in other i)
         go (j, p, e) =
-            on (isLive before.places order)
+            on (is_live before.places order)
             (λ live. stayed (test_live before order some live) (j, p, e))
             (λ unlive.
             given (all (suc j) j (omega arith) (p, λ live. clash (live_test before order (subst (Live before) e live)) unlive))
@@ -167,24 +167,24 @@ module _ (calls : List (List ℕ)) (before : Desk) (list : List ℕ) where
             let is : k ≡ i = first.stay.single order k i (subst (λ o. HasSlot one o k) e here) (some, small, same) in
             subst (λ k. HasSlot other order k × (number_in one k ≡ number_in other k)) is (subst (λ o. HasSlot other o k) e there, number)))
 
-    same-words : (order i : ℕ) → HasSlot one order i → codedOf (placeAt one.places i).slot ≡ codedOf (placeAt other.places i).slot
+    same-words : (order i : ℕ) → HasSlot one order i → coded_of (place_at one.places i).slot ≡ coded_of (place_at other.places i).slot
     same-words order i has = go ((first.stay.live order).0 (i, has)) (same-slot order i has)
       where
-        go : Present list order → HasSlot other order i × (number_in one i ≡ number_in other i) → codedOf (placeAt one.places i).slot ≡ codedOf (placeAt other.places i).slot
+        go : Present list order → HasSlot other order i × (number_in one i ≡ number_in other i) → coded_of (place_at one.places i).slot ≡ coded_of (place_at other.places i).slot
         go (j, p, e) (there, number) =
             first.stay.words j i p (subst (λ o. HasSlot one o i) (sym e) has)
             ∙ (ap (λ n. settled (record { number = n; kind = (order_at list j).kind; first = (order_at list j).first; second = (order_at list j).second })) number
             ∙ sym (second.stay.words j i p (subst (λ o. HasSlot other o i) (sym e) there)))
 
 -- a slot has an order, or has none
-filled : (desk : Desk) (i : ℕ) → HasSlot desk (placeAt desk.places i).order i ⊎ ((order : ℕ) → HasSlot desk order i → ⊥)
+filled : (desk : Desk) (i : ℕ) → HasSlot desk (place_at desk.places i).order i ⊎ ((order : ℕ) → HasSlot desk order i → ⊥)
 filled desk i =
-    on (eqb (placeAt desk.places i).order 0)
-    (λ e. inr (λ order (some, small, same). omega (arith, eqb-true (placeAt desk.places i).order 0 e)))
+    on (eqb (place_at desk.places i).order 0)
+    (λ e. inr (λ order (some, small, same). omega (arith, eqb-true (place_at desk.places i).order 0 e)))
     (λ e.
-    on (ltb i slotCount)
-    (λ f. inl (omega (arith, eqb-false (placeAt desk.places i).order 0 e), ltb-true i slotCount f, refl))
-    (λ f. inr (λ order (some, small, same). omega (arith, ltb-false i slotCount f))))
+    on (ltb i slot_count)
+    (λ f. inl (omega (arith, eqb-false (place_at desk.places i).order 0 e), ltb-true i slot_count f, refl))
+    (λ f. inr (λ order (some, small, same). omega (arith, ltb-false i slot_count f))))
 
 -- two tests that are true when the same is
 same_test : {P : Type 0} (a b : Bool) → (a ≡ true) ↔ P → (b ≡ true) ↔ P → a ≡ b
@@ -201,24 +201,24 @@ alike calls before list one other below first second =
           (λ e.
           let more : before.step + 1 < steps = omega (arith, eqb-false (before.step + 1) steps e) in
           first.counts.rises more ∙ sym (second.counts.rises more));
-      last = last-same calls before list one other first second (orderCount list) (all calls before list one other first second (orderCount list)) first.arrive.last second.arrive.last;
+      last = last-same calls before list one other first second (order_count list) (all calls before list one other first second (order_count list)) first.arrive.last second.arrive.last;
       orders = λ i. (place i (filled one i) (filled other i)).0;
       table = λ i. (place i (filled one i) (filled other i)).1;
       rests = λ number p.
-          same_test (isResting eight one.step one.ended number) (isResting eight other.step other.ended number) (first.rests number p)
+          same_test (is_resting eight one.step one.ended number) (is_resting eight other.step other.ended number) (first.rests number p)
           (second.rests number p);
     }
   where
-    place : (i : ℕ) → HasSlot one (placeAt one.places i).order i ⊎ ((order : ℕ) → HasSlot one order i → ⊥)
-        → HasSlot other (placeAt other.places i).order i ⊎ ((order : ℕ) → HasSlot other order i → ⊥)
-        → ((placeAt one.places i).order ≡ (placeAt other.places i).order)
-        × (codedOf (placeAt one.places i).slot ≡ codedOf (placeAt other.places i).slot)
+    place : (i : ℕ) → HasSlot one (place_at one.places i).order i ⊎ ((order : ℕ) → HasSlot one order i → ⊥)
+        → HasSlot other (place_at other.places i).order i ⊎ ((order : ℕ) → HasSlot other order i → ⊥)
+        → ((place_at one.places i).order ≡ (place_at other.places i).order)
+        × (coded_of (place_at one.places i).slot ≡ coded_of (place_at other.places i).slot)
     place i (inl has) there = (
-      sym (same-slot calls before list one other first second (placeAt one.places i).order i has).0.2,
-      same-words calls before list one other first second (placeAt one.places i).order i has,
+      sym (same-slot calls before list one other first second (place_at one.places i).order i has).0.2,
+      same-words calls before list one other first second (place_at one.places i).order i has,
     )
     place i (inr none) (inl has) =
-        absurd (none (placeAt other.places i).order (same-slot calls before list other one second first (placeAt other.places i).order i has).0)
+        absurd (none (place_at other.places i).order (same-slot calls before list other one second first (place_at other.places i).order i has).0)
     place i (inr none) (inr none-too) =
-        let e : placeAt one.places i ≡ placeAt other.places i = first.stay.empty i none ∙ sym (second.stay.empty i none-too) in
-        (ap (λ (x : Place). x.order) e, ap (λ (x : Place). codedOf x.slot) e)
+        let e : place_at one.places i ≡ place_at other.places i = first.stay.empty i none ∙ sym (second.stay.empty i none-too) in
+        (ap (λ (x : Place). x.order) e, ap (λ (x : Place). coded_of x.slot) e)

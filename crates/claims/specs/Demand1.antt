@@ -5,21 +5,21 @@
 --
 -- It is said of the contracts of the functions that take a list, a telegram, a buffer or a packet number (Functions.antt): whatever such
 -- a function is handed, each outcome that its contract allows is as told below. The rows are those of document 01's table, in its order:
--- `listRows`, `writeRows`, `readRows`, `hearRows` and `trainRows`. proofs/Demand1.antt proves it.
+-- `list_rows`, `write_rows`, `read_rows`, `hear_rows` and `train_rows`. proofs/Demand1.antt proves it.
 use Rattle.std.specs.Prelude.{ℕ, ◌≡◌, ◌↔◌, Bool, true, false, List, length}
 use Rattle.hand.specs.Sets.{begun}
-use Rattle.signals.specs.Answers.{acceptance, absence, refusalUnder, noted_of}
-use Rattle.signals.specs.Signals.{missedBy}
+use Rattle.signals.specs.Answers.{acceptance, absence, refusal_under, noted_of}
+use Rattle.signals.specs.Signals.{missed_by}
 use Rattle.kit.specs.Asserted as Asserted
 use Rattle.kit.specs.Contracts.{OneAnswer}
 use Rattle.kit.specs.Ladder.{Decides, NoneHolds}
-use Rattle.wire.specs.Verdicts.{ruledRefused, rulingOf}
-use Rattle.telegram.specs.Telegrams.{readRows, writeRows}
-use Rattle.orders.specs.Orders.{listRows}
-use Rattle.listener.specs.Answers.{refusedAs, toldOf}
-use Rattle.listener.specs.Lent.{listenerIn}
-use Rattle.listener.specs.Listeners.{holding, hearRows}
-use Rattle.train_codes.specs.Refusals.{trainRows}
+use Rattle.wire.specs.Verdicts.{ruled_refused, ruling_of}
+use Rattle.telegram.specs.Telegrams.{read_rows, write_rows}
+use Rattle.orders.specs.Orders.{list_rows}
+use Rattle.listener.specs.Answers.{refused_as, told_of}
+use Rattle.listener.specs.Lent.{listener_in}
+use Rattle.listener.specs.Listeners.{holding, hear_rows}
+use Rattle.train_codes.specs.Refusals.{train_rows}
 use Rattle.desk.proofs.Desk.accept as accept
 use Rattle.desk_writer.proofs.write as write
 use Rattle.telegram_reader.proofs.read as read
@@ -39,32 +39,32 @@ pub record Lists : Type 0 where
   -- M-1a: there is one answer and one next desk
   pub defined : OneAnswer accept.ended accept.Reads.Learnt
   -- M-1d, R-01 to R-08, R-18: a list is refused under the number of document 01
-  pub refused : OfAccept (λ desk list answer. RefusedBy (listRows desk.places list) ruledRefused (rulingOf answer.verdict))
+  pub refused : OfAccept (λ desk list answer. RefusedBy (list_rows desk.places list) ruled_refused (ruling_of answer.verdict))
   -- M-1f, D-18, R-24: a refused list changes nothing of the desk
-  pub unchanged : OfAccept (λ desk list answer. (number : ℕ) → rulingOf answer.verdict ≡ ruledRefused number → answer.desk ≡ desk)
+  pub unchanged : OfAccept (λ desk list answer. (number : ℕ) → ruling_of answer.verdict ≡ ruled_refused number → answer.desk ≡ desk)
 
 -- ---- "telegram": `telegram_reader::read(bytes)`, and `Listener::hear(listener, telegram)`
 
 pub record Telegrams : Type 0 where
   -- M-1b, M-1d, R-06, R-10 to R-14, R-20: reading
   pub read-defined : OneAnswer read.ended read.Reads.Learnt
-  pub read-refused : OfRead (λ bytes reading. RefusedBy (readRows bytes) ruledRefused (rulingOf reading.verdict))
+  pub read-refused : OfRead (λ bytes reading. RefusedBy (read_rows bytes) ruled_refused (ruling_of reading.verdict))
   -- M-1b, M-1d, R-06, R-10 to R-15, R-20, R-21: hearing
   pub defined : OneAnswer hear.ended hear.Reads.Learnt
-  pub refused : OfHear (λ listener telegram heard. RefusedBy (hearRows listener telegram) refusedAs (toldOf heard.answer))
+  pub refused : OfHear (λ listener telegram heard. RefusedBy (hear_rows listener telegram) refused_as (told_of heard.answer))
   -- M-1f, L-10, L-11, R-24: 15 drops the set in hand, and no other refusal changes the listener
-  pub dropped : OfHear (λ listener telegram heard. toldOf heard.answer ≡ refusedAs 15 → heard.listener ≡ holding listener (begun 0))
-  pub unchanged : OfHear (λ listener telegram heard. (number : ℕ) → (number ≡ 15 → ⊥) → toldOf heard.answer ≡ refusedAs number → heard.listener ≡ listener)
+  pub dropped : OfHear (λ listener telegram heard. told_of heard.answer ≡ refused_as 15 → heard.listener ≡ holding listener (begun 0))
+  pub unchanged : OfHear (λ listener telegram heard. (number : ℕ) → (number ≡ 15 → ⊥) → told_of heard.answer ≡ refused_as number → heard.listener ≡ listener)
 
--- W-04: the same where the listener stands in memory that is lent, `listener::hear_in(memory, telegram)`: `listenerIn` is the listener that
+-- W-04: the same where the listener stands in memory that is lent, `listener::hear_in(memory, telegram)`: `listener_in` is the listener that
 -- the memory means
 pub record TelegramsLent : Type 0 where
   pub defined : OneAnswer hear-in.ended hear-in.Reads.Learnt
-  pub refused : OfHearIn (λ memory telegram answer after. RefusedBy (hearRows (listenerIn memory) telegram) refusedAs (toldOf answer))
+  pub refused : OfHearIn (λ memory telegram answer after. RefusedBy (hear_rows (listener_in memory) telegram) refused_as (told_of answer))
   -- M-1f, L-10: 15 drops the set in hand
-  pub dropped : OfHearIn (λ memory telegram answer after. toldOf answer ≡ refusedAs 15 → listenerIn after ≡ holding (listenerIn memory) (begun 0))
+  pub dropped : OfHearIn (λ memory telegram answer after. told_of answer ≡ refused_as 15 → listener_in after ≡ holding (listener_in memory) (begun 0))
   -- M-1f, L-11, R-24: no other refusal changes the listener, nor any byte of its memory
-  pub unchanged : OfHearIn (λ memory telegram answer after. (number : ℕ) → (number ≡ 15 → ⊥) → toldOf answer ≡ refusedAs number → after ≡ memory)
+  pub unchanged : OfHearIn (λ memory telegram answer after. (number : ℕ) → (number ≡ 15 → ⊥) → told_of answer ≡ refused_as number → after ≡ memory)
 
 -- ---- and those from the train: `Signals::update(signals, present, telegram)`
 
@@ -72,21 +72,21 @@ pub record TrainTelegrams : Type 0 where
   -- M-1b: there is one answer and one next record
   pub defined : OneAnswer update.ended update.Reads.Learnt
   -- M-1d, R-10, R-16, R-17, R-22: a telegram is refused under the number of document 01
-  pub refused : OfUpdate (λ signals present telegram updated. present ≡ true → RefusedBy (trainRows telegram) refusalUnder (noted_of updated.answer))
+  pub refused : OfUpdate (λ signals present telegram updated. present ≡ true → RefusedBy (train_rows telegram) refusal_under (noted_of updated.answer))
   -- R-23, C-07: and it is accepted when no row holds, and never else, so that no reader may miss a good one
-  pub accepted-when : OfUpdate (λ signals present telegram updated. present ≡ true → (noted_of updated.answer ≡ acceptance) ↔ NoneHolds (trainRows telegram))
+  pub accepted_when : OfUpdate (λ signals present telegram updated. present ≡ true → (noted_of updated.answer ≡ acceptance) ↔ NoneHolds (train_rows telegram))
   -- S-13, S-14: a call with none is a miss, and is not refused
-  pub absent : OfUpdate (λ signals present telegram updated. present ≡ false → (noted_of updated.answer ≡ absence) × (updated.signals ≡ missedBy signals))
+  pub absent : OfUpdate (λ signals present telegram updated. present ≡ false → (noted_of updated.answer ≡ absence) × (updated.signals ≡ missed_by signals))
   -- M-1f, S-13, S-20, R-24: a refused one is a miss, and changes nothing else
-  pub missed : OfUpdate (λ signals present telegram updated. (number : ℕ) → noted_of updated.answer ≡ refusalUnder number → updated.signals ≡ missedBy signals)
+  pub missed : OfUpdate (λ signals present telegram updated. (number : ℕ) → noted_of updated.answer ≡ refusal_under number → updated.signals ≡ missed_by signals)
 
 -- S-01: the same where the record is: `signals_in_place::update(held, present, telegram)`
 pub record TrainTelegramsLent : Type 2 where
   pub defined : Asserted.OneAnswerLent update-lent.ended (λ M 𝓤. update-lent.clauses 𝓤)
-  pub refused : OfUpdateLent (λ signals present telegram answer after. present ≡ true → RefusedBy (trainRows telegram) refusalUnder (noted_of answer))
-  pub accepted-when : OfUpdateLent (λ signals present telegram answer after. present ≡ true → (noted_of answer ≡ acceptance) ↔ NoneHolds (trainRows telegram))
-  pub absent : OfUpdateLent (λ signals present telegram answer after. present ≡ false → (noted_of answer ≡ absence) × (after ≡ missedBy signals))
-  pub missed : OfUpdateLent (λ signals present telegram answer after. (number : ℕ) → noted_of answer ≡ refusalUnder number → after ≡ missedBy signals)
+  pub refused : OfUpdateLent (λ signals present telegram answer after. present ≡ true → RefusedBy (train_rows telegram) refusal_under (noted_of answer))
+  pub accepted_when : OfUpdateLent (λ signals present telegram answer after. present ≡ true → (noted_of answer ≡ acceptance) ↔ NoneHolds (train_rows telegram))
+  pub absent : OfUpdateLent (λ signals present telegram answer after. present ≡ false → (noted_of answer ≡ absence) × (after ≡ missed_by signals))
+  pub missed : OfUpdateLent (λ signals present telegram answer after. (number : ℕ) → noted_of answer ≡ refusal_under number → after ≡ missed_by signals)
 
 -- ---- "buffer and packet number": `desk_writer::write(desk, packet, buffer)`
 
@@ -94,9 +94,9 @@ pub record Buffers : Type 0 where
   -- M-1c: there is one verdict, and one last value of the buffer
   pub defined : OneAnswer write.ended write.Reads.Learnt
   -- M-1d, R-09, R-10, R-19: it is refused under the number of document 01
-  pub refused : OfWrite (λ desk packet buffer verdict after. RefusedBy (writeRows packet (length buffer)) ruledRefused (rulingOf verdict))
+  pub refused : OfWrite (λ desk packet buffer verdict after. RefusedBy (write_rows packet (length buffer)) ruled_refused (ruling_of verdict))
   -- M-1e, R-25: a refused call changes no byte
-  pub unchanged : OfWrite (λ desk packet buffer verdict after. (number : ℕ) → rulingOf verdict ≡ ruledRefused number → after ≡ buffer)
+  pub unchanged : OfWrite (λ desk packet buffer verdict after. (number : ℕ) → ruling_of verdict ≡ ruled_refused number → after ≡ buffer)
 
 -- ---- the demand
 

@@ -6,21 +6,21 @@
 -- Hearings.antt. proofs/Ends.antt proves the claim: of every binding that reads back what it wrote, where the listener's figure is not
 -- above the desk's, and the desk's is at most 11.
 use Rattle.std.specs.Prelude.{ℕ, ◌+◌, ◌-◌, ◌%◌, ◌≤◌, ◌≡◌, true, cond, List, [], ◌∷◌, replicate}
-use Rattle.condition.specs.Slots.{emptySlot, slotCount}
+use Rattle.condition.specs.Slots.{empty_slot, slot_count}
 use Rattle.wire.specs.Steps.{steps}
-use Rattle.wire.specs.Verdicts.{ruledRefused, rulingOf, number_of}
+use Rattle.wire.specs.Verdicts.{ruled_refused, ruling_of, number_of}
 use Rattle.condition.specs.declared.slots.Slot.{Slot}
 use Rattle.telegram.specs.declared.Reading.{Reading}
 use Rattle.telegram.specs.declared.Telegram.{Telegram}
-use Rattle.desk.specs.Desks.{packetOf}
+use Rattle.desk.specs.Desks.{packet_of}
 use Rattle.picture.specs.Pictures.{count_of}
-use Rattle.listener.specs.Listeners.{freshListener, hearOf}
-use Rattle.listener.specs.Answers.{Told, refusedAs, asRepeat, asHeld, takenAs}
+use Rattle.listener.specs.Listeners.{fresh_listener, hear_of}
+use Rattle.listener.specs.Answers.{Told, refused_as, as_repeat, as_held, taken_as}
 use Rattle.last_step.specs.declared.Last.{Last}
 use Rattle.last_step.specs.declared.Last.TheVariants.{Never, Step}
 use Rattle.listener.specs.declared.Listener.{Listener}
-use Rattle.claims.specs.Calls.{stepsMade, deskOf, tableIn, order_in, StoodFrom}
-use Rattle.claims.specs.Hearings.{Item, sent, spoilt, wasHeard, heardWhole, wholes, NoneAfter, Near}
+use Rattle.claims.specs.Calls.{steps_made, desk_of, table_in, order_in, StoodFrom}
+use Rattle.claims.specs.Hearings.{Item, sent, spoilt, was_heard, heard_whole, wholes, NoneAfter, Near}
 
 -- M-2: a binding: how a telegram is written as a message and read from it, and which telegrams it can carry
 pub record Binding (Message : Type 0) : Type 1 where
@@ -33,42 +33,42 @@ module _ (rest reach : ℕ) {Message : Type 0} (binding : Binding Message) (call
   -- ---- "Start both ends fresh."
 
   -- D-04, W-03: what is heard as packet p of step n is what the desk of that step wrote
-  abbrev pub messageOf : Item Message → Message
-  messageOf (sent n p) = binding.write (packetOf (deskOf rest calls n) p)
-  messageOf (spoilt other) = other
+  abbrev pub message_of : Item Message → Message
+  message_of (sent n p) = binding.write (packet_of (desk_of rest calls n) p)
+  message_of (spoilt other) = other
 
   -- A-20, M-1b: the listener after what was heard, the newest first
-  unfoldable pub listenerAfter : List (Item Message) → Listener
-  listenerAfter [] = freshListener
-  listenerAfter (item ∷ earlier) = (hearOf reach (listenerAfter earlier) (binding.read (messageOf item))).listener
+  unfoldable pub listener_after : List (Item Message) → Listener
+  listener_after [] = fresh_listener
+  listener_after (item ∷ earlier) = (hear_of reach (listener_after earlier) (binding.read (message_of item))).listener
 
   -- M-1b: and what it answers to one telegram more
-  abbrev pub answerTo : Item Message → List (Item Message) → Told
-  answerTo item earlier = (hearOf reach (listenerAfter earlier) (binding.read (messageOf item))).told
+  abbrev pub answer_to : Item Message → List (Item Message) → Told
+  answer_to item earlier = (hear_of reach (listener_after earlier) (binding.read (message_of item))).told
 
   -- ---- "Let telegrams be lost or repeated, step order kept, each one heard coming at most 8,191 steps after the last table heard
   -- whole (before any, after the first telegram heard)."
 
   -- D-02, T-01: what can be heard: one of the five packets of a step that the desk has made
   abbrev pub OfTheDesk : ℕ → ℕ → Type 0
-  OfTheDesk n p = (n ≤ stepsMade rest calls) × (3 ≤ p) × (p ≤ 7) × binding.CanCarry (packetOf (deskOf rest calls n) p)
+  OfTheDesk n p = (n ≤ steps_made rest calls) × (3 ≤ p) × (p ≤ 7) × binding.CanCarry (packet_of (desk_of rest calls n) p)
 
   -- A-24: that a sequence was heard so. Nothing asks that a telegram be heard at all, and none is forbidden to come again. `late` and
   -- `damaged` allow more than the user does: repeats of the last whole table at any later time, and anywhere what the reader refuses.
   pub data Premises : List (Item Message) → Type 0 where
     nothing : Premises []
-    in-turn : {earlier : List (Item Message)} (n p : ℕ) → Premises earlier → OfTheDesk n p → NoneAfter n earlier → Near n earlier → Premises (sent n p ∷ earlier)
+    in_turn : {earlier : List (Item Message)} (n p : ℕ) → Premises earlier → OfTheDesk n p → NoneAfter n earlier → Near n earlier → Premises (sent n p ∷ earlier)
     late : {earlier : List (Item Message)} (n p : ℕ) (before : List ℕ) → Premises earlier → OfTheDesk n p → wholes earlier ≡ n ∷ before
         → Premises (sent n p ∷ earlier)
-    damaged : {earlier : List (Item Message)} (other : Message) (number : ℕ) → Premises earlier → rulingOf (binding.read other).verdict ≡ ruledRefused number
+    damaged : {earlier : List (Item Message)} (other : Message) (number : ℕ) → Premises earlier → ruling_of (binding.read other).verdict ≡ ruled_refused number
         → Premises (spoilt other ∷ earlier)
 
   -- ---- "Then each table heard whole becomes the vehicle's picture exactly, and until then the previous picture stands."
 
   -- M-3a, M-3b: the picture when these steps were heard whole, the newest first; A-20: before any, the fresh one
-  abbrev pub pictureOf : List ℕ → List Slot
-  pictureOf [] = replicate slotCount emptySlot
-  pictureOf (n ∷ before) = tableIn rest calls n
+  abbrev pub picture_of : List ℕ → List Slot
+  picture_of [] = replicate slot_count empty_slot
+  picture_of (n ∷ before) = table_in rest calls n
 
   -- L-04: and the step last taken
   abbrev pub last_of : List ℕ → Last
@@ -91,25 +91,25 @@ module _ (rest reach : ℕ) {Message : Type 0} (binding : Binding Message) (call
   -- M-3e: whatever was lost before, a telegram after which its table has been heard whole leaves that table as the picture
   abbrev pub PutRight : List (Item Message) → Type 0
   PutRight [] = Unit
-  PutRight (sent n p ∷ earlier) = heardWhole (sent n p ∷ earlier) n ≡ true → (listenerAfter (sent n p ∷ earlier)).picture ≡ tableIn rest calls n
+  PutRight (sent n p ∷ earlier) = heard_whole (sent n p ∷ earlier) n ≡ true → (listener_after (sent n p ∷ earlier)).picture ≡ table_in rest calls n
   PutRight (spoilt other ∷ earlier) = Unit
 
   -- ---- and the answers, which the user reads in the listing
 
   -- L-05, L-08, C-09: the true distance from the previous whole table; 0 for the first
-  abbrev pub trueGap : List ℕ → ℕ → ℕ
-  trueGap [] n = 0
-  trueGap (m ∷ before) n = n - m
+  abbrev pub true_gap : List ℕ → ℕ → ℕ
+  true_gap [] n = 0
+  true_gap (m ∷ before) n = n - m
 
   -- L-01 to L-04: a telegram that was heard before is a repeat; one that makes its table whole is answered with that table's step
   -- number, its conditions and the distance; any other is held. None that the desk sent is refused.
   abbrev pub expected : Item Message → List (Item Message) → Told
   expected (sent n p) earlier =
-      cond (wasHeard earlier n p) asRepeat
-      (cond (heardWhole (sent n p ∷ earlier) n) (takenAs (n % steps) (count_of (tableIn rest calls n)) (trueGap (wholes earlier) n))
-      asHeld)
-  expected (spoilt other) earlier = refusedAs (number_of (binding.read other).verdict)
+      cond (was_heard earlier n p) as_repeat
+      (cond (heard_whole (sent n p ∷ earlier) n) (taken_as (n % steps) (count_of (table_in rest calls n)) (true_gap (wholes earlier) n))
+      as_held)
+  expected (spoilt other) earlier = refused_as (number_of (binding.read other).verdict)
 
   abbrev pub Answered : List (Item Message) → Type 0
   Answered [] = Unit
-  Answered (item ∷ earlier) = answerTo item earlier ≡ expected item earlier
+  Answered (item ∷ earlier) = answer_to item earlier ≡ expected item earlier

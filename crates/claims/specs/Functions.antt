@@ -39,11 +39,11 @@ use Rattle.telegram_writer.proofs.write as write-telegram
 use Rattle.desk.proofs.Desk.accept as accept
 use Rattle.desk_writer.proofs.table_of as table-call
 use Rattle.desk_writer.proofs.write as write
-use Rattle.desk.proofs.Desk.fresh as fresh-desk
-use Rattle.listener.proofs.Listener.fresh as fresh-listener
+use Rattle.desk.proofs.Desk.fresh as fresh_desk_lem
+use Rattle.listener.proofs.Listener.fresh as fresh_listener_lem
 use Rattle.listener.proofs.Listener.hear as hear
 use Rattle.listener.proofs.hear_in as hear-in
-use Rattle.signals.proofs.Signals.fresh as fresh-signals
+use Rattle.signals.proofs.Signals.fresh as fresh_signals_lem
 use Rattle.signals.proofs.Signals.update as update
 use Rattle.signals_in_place.specs.contracts.update as update-lent
 
@@ -61,7 +61,7 @@ OfWriteTelegram Such = Promised write-telegram.ended write-telegram.Reads.Learnt
 
 -- `Desk::fresh()`
 abbrev pub OfFreshDesk : (Desk → Type 0) → Type 0
-OfFreshDesk Such = Promised fresh-desk.ended fresh-desk.Reads.Learnt (λ κs _ desk lasts. Such desk)
+OfFreshDesk Such = Promised fresh_desk_lem.ended fresh_desk_lem.Reads.Learnt (λ κs _ desk lasts. Such desk)
 
 -- `Desk::accept(desk, list)`
 abbrev pub OfAccept : (Desk → List ℕ → Answer → Type 0) → Type 0
@@ -77,7 +77,7 @@ OfWrite Such = Promised write.ended write.Reads.Learnt (λ κs (desk, (packet, (
 
 -- `Listener::fresh()`
 abbrev pub OfFreshListener : (Listener → Type 0) → Type 0
-OfFreshListener Such = Promised fresh-listener.ended fresh-listener.Reads.Learnt (λ κs _ listener lasts. Such listener)
+OfFreshListener Such = Promised fresh_listener_lem.ended fresh_listener_lem.Reads.Learnt (λ κs _ listener lasts. Such listener)
 
 -- `Listener::hear(listener, telegram)`
 abbrev pub OfHear : (Listener → List ℕ → Heard → Type 0) → Type 0
@@ -89,7 +89,7 @@ OfHearIn Such = Promised hear-in.ended hear-in.Reads.Learnt (λ κs (memory, (te
 
 -- `Signals::fresh()`
 abbrev pub OfFreshSignals : (Signals → Type 0) → Type 0
-OfFreshSignals Such = Promised fresh-signals.ended fresh-signals.Reads.Learnt (λ κs _ signals lasts. Such signals)
+OfFreshSignals Such = Promised fresh_signals_lem.ended fresh_signals_lem.Reads.Learnt (λ κs _ signals lasts. Such signals)
 
 -- `Signals::update(signals, present, telegram)`
 abbrev pub OfUpdate : (Signals → Bool → List ℕ → Updated → Type 0) → Type 0

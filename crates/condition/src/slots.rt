@@ -1,6 +1,6 @@
 // A slot, and the number, type and two words that code it.
 ghost use Rattle.std.specs.Prelude.{◌≡◌};
-ghost use Rattle.condition.specs.Slots.{emptySlot, isOccupied, body_of, slotRefusal, codedOf};
+ghost use Rattle.condition.specs.Slots.{empty_slot, is_occupied, body_of, slot_refusal, coded_of};
 
 use kinds::{COUNTRIES, CURRENT, TRACTION, VOLTAGES, is_kind, second_allowed, second_held};
 
@@ -35,7 +35,7 @@ pub struct Slot {
 
 impl Slot {
     pub fn empty() -> Self
-        ensures { result ≡ emptySlot }
+        ensures { result ≡ empty_slot }
     {
         Slot {
             number: 0,
@@ -44,7 +44,7 @@ impl Slot {
     }
 
     pub fn is_occupied(self) -> bool
-        ensures { result ≡ isOccupied self }
+        ensures { result ≡ is_occupied self }
     {
         let body = self.body;
         match body {
@@ -95,7 +95,7 @@ pub fn body_of(kind: u8, first: u16, second: u16) -> Body
 
 // The first of the rows 12, 13 and 6 that holds, or 0.
 pub fn refusal_of(coded: Coded) -> u8
-    ensures { result ≡ slotRefusal coded }
+    ensures { result ≡ slot_refusal coded }
 {
     if coded.number == 0 {
         if coded.kind != 0 {
@@ -121,7 +121,7 @@ pub fn refusal_of(coded: Coded) -> u8
 // A slot, coded. Of a country and a voltage the ten and the four bits that have room are written: a slot that a desk or a reader
 // holds has no others.
 pub fn coded_of(slot: Slot) -> Coded
-    ensures { result ≡ codedOf slot }
+    ensures { result ≡ coded_of slot }
 {
     let body = slot.body;
     match body {

@@ -7,70 +7,70 @@ use mathlib.Core.Bool.{true}
 use mathlib.Core.List.{List, [], ◌∷◌}
 use native.Mathlib.Omega.{arith}
 use Rattle.kit.proofs.Cases.{on, given}
-use Rattle.condition.specs.Slots.{slotCount}
+use Rattle.condition.specs.Slots.{slot_count}
 use Rattle.orders.proofs.Lists.{fair}
-use Rattle.resting.specs.Rests.{endedAt, isResting}
+use Rattle.resting.specs.Rests.{ended_at, is_resting}
 use Rattle.resting.specs.declared.Ended.{Ended}
-use Rattle.resting.proofs.Rested.{resting-some, resting-when}
-use Rattle.desk.proofs.Runs.{deskRun, AllAccepted, EndedAgo}
+use Rattle.resting.proofs.Rested.{resting-some, resting_when}
+use Rattle.desk.proofs.Runs.{desk_run, AllAccepted, EndedAgo}
 use Rattle.desk.proofs.Seating.{inside}
 use Rattle.desk.proofs.Stepping.{Sound, Entry, begun, moved, entry, rests, moves}
 use Rattle.desk.proofs.Tracing.{at, run_sound, fresh-ended}
 
 module _ (rest rows : ℕ) (enough : rest ≤ rows) (few : rows ≤ 11) where
   -- an entry in row k is of an order that ended k steps ago
-  pub entry-ended : (h : List (List ℕ)) (r x : ℕ) → AllAccepted rest rows h → 1 ≤ x → (endedAt (deskRun rest rows h).ended r).number ≡ x → EndedAgo rest rows h x (r / slotCount)
-  unfolding deskRun
+  pub entry-ended : (h : List (List ℕ)) (r x : ℕ) → AllAccepted rest rows h → 1 ≤ x → (ended_at (desk_run rest rows h).ended r).number ≡ x → EndedAgo rest rows h x (r / slot_count)
+  unfolding desk_run
   entry-ended [] r x a p e = absurd (omega (arith, rw fresh-ended at e))
   entry-ended (l ∷ h) r x (q, a) p e =
-      go (λ before. entry-ended h before x a p) (entry rest rows enough few (deskRun rest rows h) s l (fair (deskRun rest rows h).places l q) r (omega arith))
+      go (λ before. entry-ended h before x a p) (entry rest rows enough few (desk_run rest rows h) s l (fair (desk_run rest rows h).places l q) r (omega arith))
     where
-      s : Sound rows (deskRun rest rows h)
+      s : Sound rows (desk_run rest rows h)
       s = run_sound rest rows enough few h a
 
-      go : ((before : ℕ) → (endedAt (deskRun rest rows h).ended before).number ≡ x → EndedAgo rest rows h x (before / slotCount))
-          → Entry rest rows enough few (deskRun rest rows h) s l (fair (deskRun rest rows h).places l q) r
-          → EndedAgo rest rows (l ∷ h) x (r / slotCount)
+      go : ((before : ℕ) → (ended_at (desk_run rest rows h).ended before).number ≡ x → EndedAgo rest rows h x (before / slot_count))
+          → Entry rest rows enough few (desk_run rest rows h) s l (fair (desk_run rest rows h).places l q) r
+          → EndedAgo rest rows (l ∷ h) x (r / slot_count)
       go older (begun small named absent there) =
-          let row : 0 ≡ r / slotCount = omega arith in
+          let row : 0 ≡ r / slot_count = omega arith in
           subst (λ k. EndedAgo rest rows (l ∷ h) x k) row (r, named, sym (ap (λ (y : Ended). y.number) there) ∙ e, absent)
       go older (moved before back small there) =
-          let row : suc (before / slotCount) ≡ r / slotCount = omega arith in
+          let row : suc (before / slot_count) ≡ r / slot_count = omega arith in
           subst (λ k. EndedAgo rest rows (l ∷ h) x k) row (older before (sym (ap (λ (y : Ended). y.number) there) ∙ e))
 
   -- and of an order that ended k steps ago there is one in row k
-  pub ended-entry : (h : List (List ℕ)) (x k : ℕ) → AllAccepted rest rows h → k < rows → EndedAgo rest rows h x k
-      → (r : ℕ) × (r < slotCount * rows) × (r / slotCount ≡ k) × ((endedAt (deskRun rest rows h).ended r).number ≡ x)
-  unfolding deskRun
-  ended-entry [] x k a p e = absurd e
-  ended-entry (l ∷ h) x zero (q, a) p (i, named, number, absent) =
-      let s : Sound rows (deskRun rest rows h) = run_sound rest rows enough few h a in
-      let small : i < slotCount = inside s.orderly i named in (
+  pub ended_entry_lem : (h : List (List ℕ)) (x k : ℕ) → AllAccepted rest rows h → k < rows → EndedAgo rest rows h x k
+      → (r : ℕ) × (r < slot_count * rows) × (r / slot_count ≡ k) × ((ended_at (desk_run rest rows h).ended r).number ≡ x)
+  unfolding desk_run
+  ended_entry_lem [] x k a p e = absurd e
+  ended_entry_lem (l ∷ h) x zero (q, a) p (i, named, number, absent) =
+      let s : Sound rows (desk_run rest rows h) = run_sound rest rows enough few h a in
+      let small : i < slot_count = inside s.orderly i named in (
         i,
         omega arith,
         omega arith,
-        rests rest rows enough few (deskRun rest rows h) s l (fair (deskRun rest rows h).places l q) (omega arith) i named absent ∙ number,
+        rests rest rows enough few (desk_run rest rows h) s l (fair (desk_run rest rows h).places l q) (omega arith) i named absent ∙ number,
       )
-  ended-entry (l ∷ h) x (suc k) (q, a) p e =
-      given (ended-entry h x k a (omega arith) e)
+  ended_entry_lem (l ∷ h) x (suc k) (q, a) p e =
+      given (ended_entry_lem h x k a (omega arith) e)
       (λ (r, small, row, number). (
-        slotCount + r,
+        slot_count + r,
         omega arith,
         omega arith,
-        ap (λ (y : Ended). y.number) (moves rest rows enough few (deskRun rest rows h) (run_sound rest rows enough few h a) l (fair (deskRun rest rows h).places l q) r (omega arith)) ∙ number,
+        ap (λ (y : Ended). y.number) (moves rest rows enough few (desk_run rest rows h) (run_sound rest rows enough few h a) l (fair (desk_run rest rows h).places l q) r (omega arith)) ∙ number,
       ))
 
   -- D-12: a number rests exactly when an order that had it ended in this step or in one of the rest - 1 before
   pub resting-exactly : (h : List (List ℕ)) (x : ℕ) → AllAccepted rest rows h → 1 ≤ x
-      → (isResting rest (deskRun rest rows h).step (deskRun rest rows h).ended x ≡ true) ↔ ((k : ℕ) × (k < rest) × EndedAgo rest rows h x k)
+      → (is_resting rest (desk_run rest rows h).step (desk_run rest rows h).ended x ≡ true) ↔ ((k : ℕ) × (k < rest) × EndedAgo rest rows h x k)
   resting-exactly h x a p =
-      let s : Sound rows (deskRun rest rows h) = run_sound rest rows enough few h a in (
+      let s : Sound rows (desk_run rest rows h) = run_sound rest rows enough few h a in (
         λ e.
-            given (resting-some rest (deskRun rest rows h).step (deskRun rest rows h).ended x e)
+            given (resting-some rest (desk_run rest rows h).step (desk_run rest rows h).ended x e)
             (λ (r, small, number, young).
-            (r / slotCount, omega (arith, (s.aged r (omega arith)).1), entry-ended h r x a p number)),
+            (r / slot_count, omega (arith, (s.aged r (omega arith)).1), entry-ended h r x a p number)),
         λ (k, young, e).
-            given (ended-entry h x k a (omega arith) e)
+            given (ended_entry_lem h x k a (omega arith) e)
             (λ (r, small, row, number).
-            resting-when rest (deskRun rest rows h).step (deskRun rest rows h).ended x r (omega (arith, s.kept)) number (omega (arith, (s.aged r (omega arith)).1))),
+            resting_when rest (desk_run rest rows h).step (desk_run rest rows h).ended x r (omega (arith, s.kept)) number (omega (arith, (s.aged r (omega arith)).1))),
       )

@@ -4,23 +4,23 @@ use Prim.Native.Nat.{ℕ, zero, suc, ◌<◌, ◌≤◌}
 use mathlib.Core.Path.{◌≡◌}
 use mathlib.Core.Bool.{true, false}
 use mathlib.Core.List.{List, [], ◌∷◌}
-use Rattle.order_list.specs.Lists.{order_at, orderCount, stands}
-use Rattle.places.specs.Places.{placeAt, isLive}
+use Rattle.order_list.specs.Lists.{order_at, order_count, stands}
+use Rattle.places.specs.Places.{place_at, is_live}
 use Rattle.places.specs.declared.Place.{Place}
-use Rattle.orders.specs.Orders.{listRefusal}
+use Rattle.orders.specs.Orders.{list_refusal}
 use Rattle.desk.specs.declared.Desk.{Desk}
-use Rattle.desk.specs.Desks.{freshWith}
+use Rattle.desk.specs.Desks.{fresh_with}
 use Rattle.desk.specs.Steps.{step_of}
 
 -- D-02: the desk after these lists, which keeps so many rows of ended numbers
-unfoldable pub deskRun : ℕ → ℕ → List (List ℕ) → Desk
-deskRun rest rows [] = freshWith rows
-deskRun rest rows (list ∷ earlier) = step_of rest (deskRun rest rows earlier) list
+unfoldable pub desk_run : ℕ → ℕ → List (List ℕ) → Desk
+desk_run rest rows [] = fresh_with rows
+desk_run rest rows (list ∷ earlier) = step_of rest (desk_run rest rows earlier) list
 
 -- D-02: each of the lists is accepted when its turn comes
 abbrev pub AllAccepted : ℕ → ℕ → List (List ℕ) → Type 0
 AllAccepted rest rows [] = Unit
-AllAccepted rest rows (list ∷ earlier) = (listRefusal (deskRun rest rows earlier).places list ≡ 0) × AllAccepted rest rows earlier
+AllAccepted rest rows (list ∷ earlier) = (list_refusal (desk_run rest rows earlier).places list ≡ 0) × AllAccepted rest rows earlier
 
 -- M-3c: an order stood in each of the lists
 abbrev pub Stood : ℕ → List (List ℕ) → Type 0
@@ -36,12 +36,12 @@ InNewest order (list ∷ earlier) = stands list order ≡ true
 abbrev pub EndedAgo : ℕ → ℕ → List (List ℕ) → ℕ → ℕ → Type 0
 EndedAgo rest rows [] number ago = ⊥
 EndedAgo rest rows (list ∷ earlier) number zero =
-    let before = (deskRun rest rows earlier).places in
-    (i : ℕ) × (1 ≤ (placeAt before i).order) × ((placeAt before i).slot.number ≡ number) × (stands list (placeAt before i).order ≡ false)
+    let before = (desk_run rest rows earlier).places in
+    (i : ℕ) × (1 ≤ (place_at before i).order) × ((place_at before i).slot.number ≡ number) × (stands list (place_at before i).order ≡ false)
 EndedAgo rest rows (list ∷ earlier) number (suc ago) = EndedAgo rest rows earlier number ago
 
 -- P5: of the orders of a list, one is not live: order j
 pub record OneNotLive (places : List Place) (list : List ℕ) (j : ℕ) : Type 0 where
-  pub inlist : j < orderCount list
-  pub new : isLive places (order_at list j).number ≡ false
-  pub others : (k : ℕ) → k < orderCount list → (k ≡ j → ⊥) → isLive places (order_at list k).number ≡ true
+  pub inlist : j < order_count list
+  pub new : is_live places (order_at list j).number ≡ false
+  pub others : (k : ℕ) → k < order_count list → (k ≡ j → ⊥) → is_live places (order_at list k).number ≡ true

@@ -14,22 +14,22 @@ use Rattle.orders.specs.Orders.{Fair}
 use Rattle.kit.specs.Loops.{fold}
 use Rattle.kit.proofs.Cases.{on, clash, given}
 use Rattle.kit.proofs.Loops.{fold-none, fold_more}
-use Rattle.order_list.specs.Lists.{stands, order_at, orderCount}
-use Rattle.places.specs.Places.{freePlace, placeAt, placeOf, lowestFree, isLive}
-use Rattle.condition.specs.Slots.{slotCount}
+use Rattle.order_list.specs.Lists.{stands, order_at, order_count}
+use Rattle.places.specs.Places.{free_place, place_at, place_of, lowest_free, is_live}
+use Rattle.condition.specs.Slots.{slot_count}
 use Rattle.places.specs.declared.Place.{Place}
-use Rattle.order_list.proofs.Listed.{listed-when}
-use Rattle.places.proofs.Live.{live-there, live-when, free-there}
+use Rattle.order_list.proofs.Listed.{listed_when}
+use Rattle.places.proofs.Live.{live-there, live_when, free-there}
 use Rattle.orders.proofs.Lists.{fair}
-use Rattle.resting.specs.Rests.{isResting}
-use Rattle.numbers.specs.Numbers.{hasNumber, isPermitted, nextNumber, numberAfter}
+use Rattle.resting.specs.Rests.{is_resting}
+use Rattle.numbers.specs.Numbers.{has_number, is_permitted, next_number, number_after}
 use Rattle.numbers.proofs.Search.{number-first, number-some}
-use Rattle.desk.proofs.Runs.{deskRun, AllAccepted, EndedAgo, OneNotLive}
-use Rattle.desk.specs.Steps.{keptPlace, step_of, nextStep, endedNumbers}
+use Rattle.desk.proofs.Runs.{desk_run, AllAccepted, EndedAgo, OneNotLive}
+use Rattle.desk.specs.Steps.{kept_place, step_of, next_step, ended_numbers}
 use Rattle.desk.specs.declared.Desk.{Desk}
-use Rattle.arriving.specs.Arriving.{seated, seatedAll}
+use Rattle.arriving.specs.Arriving.{seated, seated_all}
 use Rattle.arriving.specs.declared.Seats.{Seats}
-use Rattle.arriving.proofs.Seated.{newPlace, seated-live, seated-new}
+use Rattle.arriving.proofs.Seated.{new_place, seated-live, seated-new}
 use Rattle.leaving.proofs.Left.{kept-stays}
 use Rattle.desk.proofs.Endings.{kept_at}
 use Rattle.desk.proofs.Resting.{resting-exactly}
@@ -41,7 +41,7 @@ use Rattle.desk.proofs.Tracing.{at, run_sound, rested, older}
 -- ---- placing a list with one new order is placing that one
 
 module _ (resting : ℕ → Bool) (list : List ℕ) (start : Seats) (j : ℕ) (one : OneNotLive start.places list j)
-    (named : (k : ℕ) → k < orderCount list → 1 ≤ (order_at list k).number) (rooms : RoomForAll resting list start (orderCount list)) where
+    (named : (k : ℕ) → k < order_count list → 1 ≤ (order_at list k).number) (rooms : RoomForAll resting list start (order_count list)) where
   abbrev turn : ℕ → Seats → Seats
   turn k = seated resting (order_at list k)
 
@@ -57,29 +57,29 @@ module _ (resting : ℕ → Bool) (list : List ℕ) (start : Seats) (j : ℕ) (o
       ∙ (fold_more turn start m
       ∙ (ap (turn m) (until m (omega arith)) ∙ seated-live resting (order_at list m) start (one.others m (omega (arith, one.inlist)) (λ z. omega arith))))
 
-  room : lowestFree start.places < slotCount
-  unfolding seatedAll
-  room = subst (λ (s : Seats). isLive s.places (order_at list j).number ≡ false → lowestFree s.places < slotCount) (until j (omega arith)) (rooms j one.inlist) one.new
+  room : lowest_free start.places < slot_count
+  unfolding seated_all
+  room = subst (λ (s : Seats). is_live s.places (order_at list j).number ≡ false → lowest_free s.places < slot_count) (until j (omega arith)) (rooms j one.inlist) one.new
 
   -- the others are live after it
-  still : (k : ℕ) → k < orderCount list → (k ≡ j → ⊥) → isLive done.places (order_at list k).number ≡ true
+  still : (k : ℕ) → k < order_count list → (k ≡ j → ⊥) → is_live done.places (order_at list k).number ≡ true
   still k p other =
-      subst (λ (s : Seats). isLive s.places (order_at list k).number ≡ true) (sym (seated-new resting (order_at list j) start one.new))
+      subst (λ (s : Seats). is_live s.places (order_at list k).number ≡ true) (sym (seated-new resting (order_at list j) start one.new))
       (given (live-there start.places (order_at list k).number (one.others k p other))
       (λ (small, same).
-      live-when (set start.places (lowestFree start.places) (newPlace resting (order_at list j) start)) (order_at list k).number
-      (placeOf start.places (order_at list k).number) small
+      live_when (set start.places (lowest_free start.places) (new_place resting (order_at list j) start)) (order_at list k).number
+      (place_of start.places (order_at list k).number) small
       (ap (λ (x : Place). x.order)
-      (get_or-set_other start.places (lowestFree start.places) (placeOf start.places (order_at list k).number) (newPlace resting (order_at list j) start) freePlace
+      (get_or-set_other start.places (lowest_free start.places) (place_of start.places (order_at list k).number) (new_place resting (order_at list j) start) free_place
       (λ z.
-      omega (arith, named k p, same, ap (placeAtOrder start.places) z, free-there start.places room)))
+      omega (arith, named k p, same, ap (place_at_order start.places) z, free-there start.places room)))
       ∙ same)))
     where
-      placeAtOrder : List Place → ℕ → ℕ
-      placeAtOrder places i = (placeAt places i).order
+      place_at_order : List Place → ℕ → ℕ
+      place_at_order places i = (place_at places i).order
 
   -- and so nothing changes after it
-  since : (m : ℕ) → j < m → m ≤ orderCount list → fold turn start m ≡ done
+  since : (m : ℕ) → j < m → m ≤ order_count list → fold turn start m ≡ done
   since zero p q = absurd (omega arith)
   since (suc m) p q =
       let e : suc m ≡ m + 1 = omega arith in
@@ -91,63 +91,63 @@ module _ (resting : ℕ → Bool) (list : List ℕ) (start : Seats) (j : ℕ) (o
       ap (turn m) (since m (omega (arith, eqb-false m j there)) (omega arith))
       ∙ seated-live resting (order_at list m) done (still m (omega arith) (eqb-false m j there))))
 
-  pub one_placed : seatedAll resting list start (orderCount list)
+  pub one_placed : seated_all resting list start (order_count list)
       ≡ record {
-        places = set start.places (lowestFree start.places) (newPlace resting (order_at list j) start);
-        last = nextNumber resting start.places start.last;
+        places = set start.places (lowest_free start.places) (new_place resting (order_at list j) start);
+        last = next_number resting start.places start.last;
       }
-  unfolding seatedAll
-  one_placed = since (orderCount list) one.inlist (omega arith) ∙ seated-new resting (order_at list j) start one.new
+  unfolding seated_all
+  one_placed = since (order_count list) one.inlist (omega arith) ∙ seated-new resting (order_at list j) start one.new
 
 -- ---- the same, seen from the desk before the step
 
 module _ {old : List Place} (o : Orderly old) {list : List ℕ} (f : Fair old list) {j : ℕ} (one : OneNotLive old list j) where
   abbrev kept : List Place
-  kept = map (keptPlace list) old
+  kept = map (kept_place list) old
 
   pub one_kept : OneNotLive kept list j
   one_kept =
       record {
         inlist = one.inlist;
         new =
-            on (isLive kept (order_at list j).number)
+            on (is_live kept (order_at list j).number)
             (λ e.
             given (live-there kept (order_at list j).number e)
             (λ (small, same).
             absurd
-            (back (placeOf kept (order_at list j).number) (case o f (placeOf kept (order_at list j).number)) small same (f.named j one.inlist))))
+            (back (place_of kept (order_at list j).number) (case o f (place_of kept (order_at list j).number)) small same (f.named j one.inlist))))
             (λ e. e);
         others = λ k p other.
             given (live-there old (order_at list k).number (one.others k p other))
             (λ (small, same).
-            live-when kept (order_at list k).number (placeOf old (order_at list k).number) small
+            live_when kept (order_at list k).number (place_of old (order_at list k).number) small
             (ap (λ (x : Place). x.order)
-            (kept_at f old (placeOf old (order_at list k).number)
-            ∙ kept-stays list (orderCount list) (placeAt old (placeOf old (order_at list k).number)) (listed-when list (orderCount list) (placeAt old (placeOf old (order_at list k).number)).order k p (sym same)))
+            (kept_at f old (place_of old (order_at list k).number)
+            ∙ kept-stays list (order_count list) (place_at old (place_of old (order_at list k).number)) (listed_when list (order_count list) (place_at old (place_of old (order_at list k).number)).order k p (sym same)))
             ∙ same));
       }
     where
-      back : (i : ℕ) → Stayed o f i (placeAt kept i) ⊎ (placeAt kept i ≡ freePlace) → i < slotCount → (placeAt kept i).order ≡ (order_at list j).number
+      back : (i : ℕ) → Stayed o f i (place_at kept i) ⊎ (place_at kept i ≡ free_place) → i < slot_count → (place_at kept i).order ≡ (order_at list j).number
           → 1 ≤ (order_at list j).number → ⊥
-      back i (inl s) small same p = clash (live-when old (order_at list j).number i small (sym s.order ∙ same)) one.new
+      back i (inl s) small same p = clash (live_when old (order_at list j).number i small (sym s.order ∙ same)) one.new
       back i (inr z) small same p = omega (arith, rw z at same)
 
 -- ---- P5
 
 module _ (rest rows : ℕ) (enough : rest ≤ rows) (few : rows ≤ 11)
-    (h : List (List ℕ)) (ending : List ℕ) (i : ℕ) (was : 1 ≤ (at (deskRun rest rows h) i).order)
-    (ended : stands ending (at (deskRun rest rows h) i).order ≡ false)
+    (h : List (List ℕ)) (ending : List ℕ) (i : ℕ) (was : 1 ≤ (at (desk_run rest rows h) i).order)
+    (ended : stands ending (at (desk_run rest rows h) i).order ≡ false)
     (between : List (List ℕ)) (list : List ℕ) (accepted : AllAccepted rest rows (list ∷ (between ++ (ending ∷ h)))) where
   -- the number that ended, in step f
   abbrev number : ℕ
-  number = (at (deskRun rest rows h) i).slot.number
+  number = (at (desk_run rest rows h) i).slot.number
 
   -- the desk before the new order comes, and after
   abbrev before : Desk
-  before = deskRun rest rows (between ++ (ending ∷ h))
+  before = desk_run rest rows (between ++ (ending ∷ h))
 
   abbrev after : Desk
-  after = deskRun rest rows (list ∷ (between ++ (ending ∷ h)))
+  after = desk_run rest rows (list ∷ (between ++ (ending ∷ h)))
 
   -- up to step f + rest - 1 it is passed over: no order of the table has it
   pub passed_over : length between + 1 < rest → (k : ℕ) → (at after k).slot.number ≡ number → ⊥
@@ -163,10 +163,10 @@ module _ (rest rows : ℕ) (enough : rest ≤ rows) (few : rows ≤ 11)
   not-again (l ∷ ls) (suc k) (q, a) small p e = not-again ls k a (omega arith) (omega arith) e
 
   abbrev resting : ℕ → Bool
-  resting = isResting rest (nextStep before.step) (endedNumbers list (nextStep before.step) before.places before.ended)
+  resting = is_resting rest (next_step before.step) (ended_numbers list (next_step before.step) before.places before.ended)
 
   -- in step f + rest it is given, if its turn has come
-  module _ (now : length between + 1 ≡ rest) (in-turn : numberAfter before.last 0 ≡ number) (j : ℕ) (one : OneNotLive before.places list j) where
+  module _ (now : length between + 1 ≡ rest) (in_turn : number_after before.last 0 ≡ number) (j : ℕ) (one : OneNotLive before.places list j) where
     s : Sound rows before
     s = run_sound rest rows enough few (between ++ (ending ∷ h)) accepted.1
 
@@ -174,44 +174,44 @@ module _ (rest rows : ℕ) (enough : rest ≤ rows) (few : rows ≤ 11)
     f = fair before.places list accepted.0
 
     abbrev kept-now : List Place
-    kept-now = map (keptPlace list) before.places
+    kept-now = map (kept_place list) before.places
 
-    rests-no-more : resting number ≡ false
-    unfolding deskRun step_of
-    rests-no-more =
+    rests-no_more : resting number ≡ false
+    unfolding desk_run step_of
+    rests-no_more =
         on (resting number)
         (λ e.
         given ((resting-exactly rest rows enough few (list ∷ (between ++ (ending ∷ h))) number accepted positive).0 e)
         (λ (k, young, ago). absurd (not-again (list ∷ between) k accepted (omega arith) (omega arith) ago)))
         (λ e. e)
 
-    not-kept : hasNumber kept-now number ≡ false
+    not-kept : has_number kept-now number ≡ false
     not-kept =
-        on (hasNumber kept-now number)
+        on (has_number kept-now number)
         (λ e. given (number-some kept-now number e) (λ (k, small, same). absurd (go k (case s.orderly f k) same)))
         (λ e. e)
       where
-        go : (k : ℕ) → Stayed s.orderly f k (placeAt kept-now k) ⊎ (placeAt kept-now k ≡ freePlace) → (placeAt kept-now k).slot.number ≡ number → ⊥
+        go : (k : ℕ) → Stayed s.orderly f k (place_at kept-now k) ⊎ (place_at kept-now k ≡ free_place) → (place_at kept-now k).slot.number ≡ number → ⊥
         go k (inl t) same = rested rest rows enough few between h ending i k accepted.1 (omega arith) was ended (sym t.number ∙ same)
         go k (inr z) same = omega (arith, positive, rw z at same)
 
-    gets : nextNumber resting kept-now before.last ≡ number
+    gets : next_number resting kept-now before.last ≡ number
     gets =
         number-first resting kept-now before.last 0 (omega arith)
-        (subst (λ n. isPermitted resting kept-now n ≡ true) (sym in-turn) (rw (not-kept, rests-no-more) refl)) (λ k p. absurd (omega arith))
-        ∙ in-turn
+        (subst (λ n. is_permitted resting kept-now n ≡ true) (sym in_turn) (rw (not-kept, rests-no_more) refl)) (λ k p. absurd (omega arith))
+        ∙ in_turn
 
     -- it is the last one given, and the lowest free slot has it
-    pub given-again : (after.last ≡ number) × ((at after (lowestFree kept-now)).slot.number ≡ number) × ((at after (lowestFree kept-now)).order ≡ (order_at list j).number)
-    unfolding deskRun step_of
+    pub given-again : (after.last ≡ number) × ((at after (lowest_free kept-now)).slot.number ≡ number) × ((at after (lowest_free kept-now)).order ≡ (order_at list j).number)
+    unfolding desk_run step_of
     given-again =
         let rooms = next-room rest rows enough few before s list f in
         let first : Seats = record { places = kept-now; last = before.last } in
         let e = one_placed resting list first j (one_kept s.orderly f one) f.named rooms in
-        let spare : lowestFree kept-now < slotCount = room resting list first j (one_kept s.orderly f one) f.named rooms in
+        let spare : lowest_free kept-now < slot_count = room resting list first j (one_kept s.orderly f one) f.named rooms in
         let there =
-        get_or-set_same kept-now (lowestFree kept-now) (newPlace resting (order_at list j) first) freePlace (omega (arith, (kept-orderly s.orderly f).twenty)) in (
+        get_or-set_same kept-now (lowest_free kept-now) (new_place resting (order_at list j) first) free_place (omega (arith, (kept-orderly s.orderly f).twenty)) in (
           ap (λ (x : Seats). x.last) e ∙ gets,
-          ap (λ (x : Seats). (placeAt x.places (lowestFree kept-now)).slot.number) e ∙ (ap (λ (x : Place). x.slot.number) there ∙ gets),
-          ap (λ (x : Seats). (placeAt x.places (lowestFree kept-now)).order) e ∙ ap (λ (x : Place). x.order) there,
+          ap (λ (x : Seats). (place_at x.places (lowest_free kept-now)).slot.number) e ∙ (ap (λ (x : Place). x.slot.number) there ∙ gets),
+          ap (λ (x : Seats). (place_at x.places (lowest_free kept-now)).order) e ∙ ap (λ (x : Place). x.order) there,
         )

@@ -1,7 +1,7 @@
 // The desk: twenty places, the numbers that ended lately, the last number given and the step number. Each accepted list makes one
 // step: orders that are absent leave (crate leaving), new ones arrive (crate arriving).
 ghost use Rattle.std.specs.Prelude.{◌≡◌};
-ghost use Rattle.desk.specs.Desks.{baseRest, freshDesk, acceptOf, Made};
+ghost use Rattle.desk.specs.Desks.{base_rest, fresh_desk, accept_of, Made};
 
 use places::Place;
 use resting::Ended;
@@ -35,7 +35,7 @@ impl Desk {
 
     // A desk at step 0 with all slots empty.
     pub fn fresh() -> Self
-        ensures { result ≡ freshDesk }
+        ensures { result ≡ fresh_desk }
     {
         let place = Place::free();
         let none = Ended::none();
@@ -50,7 +50,7 @@ impl Desk {
     // Takes the whole list of orders now in force, any bytes of any length: one step, or a refusal that changes nothing.
     pub fn accept(self, list: &[u8]) -> Answer
         requires { Made self }
-        ensures { result ≡ acceptOf baseRest self list.now }
+        ensures { result ≡ accept_of base_rest self list.now }
     {
         let before = self.places;
         let refusal = orders::refusal_of(before, list);

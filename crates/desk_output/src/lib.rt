@@ -3,7 +3,7 @@
 ghost use Rattle.std.specs.Prelude.{◌≤◌};
 ghost use Rattle.kit.specs.Put.{Poured};
 ghost use Rattle.telegram.specs.Telegrams.{bytes_of};
-ghost use Rattle.desk_output.specs.Outputs.{fiveTelegrams, refusedListLine, shortListLine};
+ghost use Rattle.desk_output.specs.Outputs.{five_telegrams, refused_list_line, short_list_line};
 
 use condition::Slot;
 use desk::Desk;
@@ -26,7 +26,7 @@ fn put_packet(step: u16, packet: u8, slots: [Slot; 4], out: &mut [u8], at: usize
 
 // The table as five telegrams, packets 3 to 7: 130 bytes. It is made once, and each packet is handed its four slots alone.
 pub fn put_table(desk: Desk, out: &mut [u8], at: usize) -> usize
-    ensures { Poured out.old at (fiveTelegrams desk) out.new result }
+    ensures { Poured out.old at (five_telegrams desk) out.new result }
 {
     let table = desk_writer::table_of(desk);
     let step = desk.step;
@@ -39,7 +39,7 @@ pub fn put_table(desk: Desk, out: &mut [u8], at: usize) -> usize
 
 // `refused N at list I` and a line feed.
 pub fn put_refused(number: u8, list: u64, line: &mut [u8], at: usize) -> usize
-    ensures { Poured line.old at (refusedListLine number list) line.new result }
+    ensures { Poured line.old at (refused_list_line number list) line.new result }
 {
     let first = text::put_words(line, at, b"refused ");
     let second = text::put_decimal(line, first, number as u64);
@@ -50,7 +50,7 @@ pub fn put_refused(number: u8, list: u64, line: &mut [u8], at: usize) -> usize
 
 // `short list` and a line feed.
 pub fn put_short(line: &mut [u8], at: usize) -> usize
-    ensures { Poured line.old at shortListLine line.new result }
+    ensures { Poured line.old at short_list_line line.new result }
 {
     text::put_words(line, at, b"short list\n")
 }

@@ -2,8 +2,8 @@
 // lent buffers; and the desk that the lists leave.
 ghost use Rattle.std.specs.Prelude.{◌≤◌, ◌≡◌, length};
 ghost use Rattle.kit.specs.Put.{Poured};
-ghost use Rattle.desk.specs.Desks.{baseRest, acceptOf, Made};
-ghost use Rattle.desk_runs.specs.Runs.{tableFor, line_for, runTables, refusedLines, deskAtEnd};
+ghost use Rattle.desk.specs.Desks.{base_rest, accept_of, Made};
+ghost use Rattle.desk_runs.specs.Runs.{table_for, line_for, run_tables, refused_lines, desk_at_end};
 
 use desk::Desk;
 use wire::Verdict;
@@ -25,9 +25,9 @@ struct Taken {
 // One list: the table after it, or the line that it is refused.
 fn take(desk: Desk, list: &[u8], lists: u64, tables: &mut [u8], lines: &mut [u8], ran: Ran) -> Taken
     requires { Made desk × (ran.tables ≤ length tables.old) × (ran.lines ≤ length lines.old) }
-    ensures { (result.desk ≡ (acceptOf baseRest desk list.now).desk)
-        × Poured tables.old ran.tables (tableFor (acceptOf baseRest desk list.now).verdict (acceptOf baseRest desk list.now).desk) tables.new result.ran.tables
-        × Poured lines.old ran.lines (line_for (acceptOf baseRest desk list.now).verdict lists) lines.new result.ran.lines }
+    ensures { (result.desk ≡ (accept_of base_rest desk list.now).desk)
+        × Poured tables.old ran.tables (table_for (accept_of base_rest desk list.now).verdict (accept_of base_rest desk list.now).desk) tables.new result.ran.tables
+        × Poured lines.old ran.lines (line_for (accept_of base_rest desk list.now).verdict lists) lines.new result.ran.lines }
 {
     let answer = desk.accept(list);
     let verdict = answer.verdict;
@@ -59,9 +59,9 @@ fn take(desk: Desk, list: &[u8], lists: u64, tables: &mut [u8], lines: &mut [u8]
 // Hands all lists to a fresh desk: the table after each that is accepted, and a line for each that is refused and where the input ends
 // inside a list. What has no room before a buffer's end is dropped. The desk is the one that the lists leave.
 fn hand_over(input: &[u8], tables: &mut [u8], lines: &mut [u8]) -> Taken
-    ensures { (result.desk ≡ deskAtEnd input.now)
-        × Poured tables.old 0 (runTables input.now) tables.new result.ran.tables
-        × Poured lines.old 0 (refusedLines input.now) lines.new result.ran.lines }
+    ensures { (result.desk ≡ desk_at_end input.now)
+        × Poured tables.old 0 (run_tables input.now) tables.new result.ran.tables
+        × Poured lines.old 0 (refused_lines input.now) lines.new result.ran.lines }
 {
     let mut desk = Desk::fresh();
     let mut ran = Ran {
@@ -91,8 +91,8 @@ fn hand_over(input: &[u8], tables: &mut [u8], lines: &mut [u8]) -> Taken
 
 // The tables and the lines that come of all lists, into two buffers.
 pub fn run(input: &[u8], tables: &mut [u8], lines: &mut [u8]) -> Ran
-    ensures { Poured tables.old 0 (runTables input.now) tables.new result.tables
-        × Poured lines.old 0 (refusedLines input.now) lines.new result.lines }
+    ensures { Poured tables.old 0 (run_tables input.now) tables.new result.tables
+        × Poured lines.old 0 (refused_lines input.now) lines.new result.lines }
 {
     let handed = hand_over(input, tables, lines);
     handed.ran
@@ -101,7 +101,7 @@ pub fn run(input: &[u8], tables: &mut [u8], lines: &mut [u8]) -> Ran
 // The desk that all lists leave, from a fresh one on. A refused list leaves it as it was, and so does an input's tail that is no whole list.
 // What would be written has no room here.
 pub fn desk_after(input: &[u8]) -> Desk
-    ensures { result ≡ deskAtEnd input.now }
+    ensures { result ≡ desk_at_end input.now }
 {
     let mut tables = [0u8; 1];
     let mut lines = [0u8; 1];

@@ -1,7 +1,7 @@
 // The desk's table, and its five packets written as telegrams.
 ghost use Rattle.std.specs.Prelude.{◌≡◌};
-ghost use Rattle.telegram.specs.Telegrams.{writeVerdict, written};
-ghost use Rattle.desk.specs.Desks.{table_of, packetOf};
+ghost use Rattle.telegram.specs.Telegrams.{write_verdict, written};
+ghost use Rattle.desk.specs.Desks.{table_of, packet_of};
 
 use condition::Slot;
 use desk::Desk;
@@ -26,8 +26,8 @@ pub fn table_of(desk: Desk) -> [Slot; 20]
 
 // Writes one packet of the table into a buffer of any length, or refuses and leaves the buffer as it is.
 pub fn write(desk: Desk, packet: u8, buffer: &mut [u8]) -> Verdict
-    ensures { (result ≡ writeVerdict (packetOf desk packet) buffer.old)
-        × (buffer.new ≡ written (packetOf desk packet) buffer.old) }
+    ensures { (result ≡ write_verdict (packet_of desk packet) buffer.old)
+        × (buffer.new ≡ written (packet_of desk packet) buffer.old) }
 {
     let table = table_of(desk);
     let telegram = Telegram {

@@ -4,14 +4,14 @@
 ghost use Rattle.std.specs.Prelude.{◌≡◌, length};
 ghost use Rattle.kit.specs.Put.{Poured};
 ghost use Rattle.wire.specs.Verdicts.{number_of};
-ghost use Rattle.telegram.specs.Telegrams.{writeRefusal, written};
-ghost use Rattle.desk.specs.Desks.{packetOf};
+ghost use Rattle.telegram.specs.Telegrams.{write_refusal, written};
+ghost use Rattle.desk.specs.Desks.{packet_of};
 ghost use Rattle.listing.specs.Listings.{listing};
-ghost use Rattle.listing_length.specs.Lengths.{listingLength};
-ghost use Rattle.hearing_runs.specs.Runs.{linesHeard};
+ghost use Rattle.listing_length.specs.Lengths.{listing_length};
+ghost use Rattle.hearing_runs.specs.Runs.{lines_heard};
 ghost use Rattle.listing_reader.specs.Fixed.{word_of, code_of};
-ghost use Rattle.desk_runs.specs.Runs.{runTables, refusedLines, deskAtEnd};
-ghost use Rattle.signal_runs.specs.Runs.{signalLines};
+ghost use Rattle.desk_runs.specs.Runs.{run_tables, refused_lines, desk_at_end};
+ghost use Rattle.signal_runs.specs.Runs.{signal_lines};
 
 use wire::Verdict;
 
@@ -26,7 +26,7 @@ pub extern "C" fn bravolith_list(recording: &[u8], out: &mut [u8]) -> usize
 // How many bytes that listing has, so that one that fits its buffer exactly is told from one that was cut.
 #[unsafe(no_mangle)]
 pub extern "C" fn bravolith_list_length(recording: &[u8]) -> usize
-    ensures { result ≡ listingLength recording.now }
+    ensures { result ≡ listing_length recording.now }
 {
     listing_length::length_of(recording)
 }
@@ -34,7 +34,7 @@ pub extern "C" fn bravolith_list_length(recording: &[u8]) -> usize
 // The lines that such a listing has for telegrams of any length, each after its length in two bytes, which one fresh listener hears.
 #[unsafe(no_mangle)]
 pub extern "C" fn bravolith_hear(telegrams: &[u8], out: &mut [u8]) -> usize
-    ensures { Poured out.old 0 (linesHeard telegrams.now) out.new result }
+    ensures { Poured out.old 0 (lines_heard telegrams.now) out.new result }
 {
     hearing_runs::hear(telegrams, out)
 }
@@ -42,7 +42,7 @@ pub extern "C" fn bravolith_hear(telegrams: &[u8], out: &mut [u8]) -> usize
 // The tables of a desk that is handed the lists, as run_desk writes them to standard output.
 #[unsafe(no_mangle)]
 pub extern "C" fn bravolith_run(lists: &[u8], out: &mut [u8]) -> usize
-    ensures { Poured out.old 0 (runTables lists.now) out.new result }
+    ensures { Poured out.old 0 (run_tables lists.now) out.new result }
 {
     let mut lines = [0u8; 1];
     let ran = desk_runs::run(lists, out, &mut lines);
@@ -52,7 +52,7 @@ pub extern "C" fn bravolith_run(lists: &[u8], out: &mut [u8]) -> usize
 // The lines on refused lists, as run_desk writes them to standard error.
 #[unsafe(no_mangle)]
 pub extern "C" fn bravolith_run_lines(lists: &[u8], out: &mut [u8]) -> usize
-    ensures { Poured out.old 0 (refusedLines lists.now) out.new result }
+    ensures { Poured out.old 0 (refused_lines lists.now) out.new result }
 {
     let mut tables = [0u8; 1];
     let ran = desk_runs::run(lists, &mut tables, out);
@@ -73,8 +73,8 @@ fn number_of(verdict: Verdict) -> u8
 // where the packet is written, and 9 or 10 where that is refused, and then no byte is changed.
 #[unsafe(no_mangle)]
 pub extern "C" fn bravolith_write(lists: &[u8], packet: u8, out: &mut [u8]) -> u8
-    ensures { (result ≡ writeRefusal packet (length out.old))
-        × (out.new ≡ written (packetOf (deskAtEnd lists.now) packet) out.old) }
+    ensures { (result ≡ write_refusal packet (length out.old))
+        × (out.new ≡ written (packet_of (desk_at_end lists.now) packet) out.old) }
 {
     number_of(desk_writer::write(desk_runs::desk_after(lists), packet, out))
 }
@@ -82,7 +82,7 @@ pub extern "C" fn bravolith_write(lists: &[u8], packet: u8, out: &mut [u8]) -> u
 // The lines of calls with train telegrams, as read_signals writes them.
 #[unsafe(no_mangle)]
 pub extern "C" fn bravolith_signals(calls: &[u8], out: &mut [u8]) -> usize
-    ensures { Poured out.old 0 (signalLines calls.now) out.new result }
+    ensures { Poured out.old 0 (signal_lines calls.now) out.new result }
 {
     signal_runs::read(calls, out)
 }

@@ -7,8 +7,8 @@ abbrev pub Framed : Type 0
 Framed = ℕ × List ℕ
 
 -- no length is bare, and each has its bytes: two bytes do not say this one
-abbrev pub noBare : ℕ
-noBare = 0x10000
+abbrev pub no_bare : ℕ
+no_bare = 0x10000
 
 -- how many bytes follow a length
 unfoldable pub follows : ℕ → ℕ → ℕ
@@ -19,12 +19,12 @@ unfoldable pub size_of : ℕ → List ℕ → ℕ
 size_of bare input = 2 + follows bare (word_at input 0)
 
 -- the input has the first call whole
-unfoldable pub isWholeFrame : ℕ → List ℕ → Bool
-isWholeFrame bare input = leb (size_of bare input) (length input)
+unfoldable pub is_whole_frame : ℕ → List ℕ → Bool
+is_whole_frame bare input = leb (size_of bare input) (length input)
 
 -- how many bytes the first call takes, and 0 where the input does not have it whole
-unfoldable pub wholeSize : ℕ → List ℕ → ℕ
-wholeSize bare input = cond (isWholeFrame bare input) (size_of bare input) 0
+unfoldable pub whole_size : ℕ → List ℕ → ℕ
+whole_size bare input = cond (is_whole_frame bare input) (size_of bare input) 0
 
 -- the first call, and what stands behind it
 unfoldable pub first_of : ℕ → List ℕ → Framed
@@ -34,31 +34,31 @@ unfoldable pub behind : ℕ → List ℕ → List ℕ
 behind bare input = drop (size_of bare input) input
 
 -- the calls that the input has whole, `most` of them at the most
-unfoldable pub framedUpTo : ℕ → ℕ → List ℕ → List Framed
-framedUpTo bare zero input = []
-framedUpTo bare (suc most) input = cond (isWholeFrame bare input) (first_of bare input ∷ framedUpTo bare most (behind bare input)) []
+unfoldable pub framed_up_to : ℕ → ℕ → List ℕ → List Framed
+framed_up_to bare zero input = []
+framed_up_to bare (suc most) input = cond (is_whole_frame bare input) (first_of bare input ∷ framed_up_to bare most (behind bare input)) []
 
 -- all of them: there are no more than bytes
 unfoldable pub calls_of : ℕ → List ℕ → List Framed
-calls_of bare input = framedUpTo bare (length input) input
+calls_of bare input = framed_up_to bare (length input) input
 
 -- what is left behind so many whole calls, and behind all of them
-unfoldable pub leftUpTo : ℕ → ℕ → List ℕ → List ℕ
-leftUpTo bare zero input = input
-leftUpTo bare (suc most) input = cond (isWholeFrame bare input) (leftUpTo bare most (behind bare input)) input
+unfoldable pub left_up_to : ℕ → ℕ → List ℕ → List ℕ
+left_up_to bare zero input = input
+left_up_to bare (suc most) input = cond (is_whole_frame bare input) (left_up_to bare most (behind bare input)) input
 
 unfoldable pub left_of : ℕ → List ℕ → List ℕ
-left_of bare input = leftUpTo bare (length input) input
+left_of bare input = left_up_to bare (length input) input
 
 -- the input ends inside a call, inside its length or its bytes
-unfoldable pub isShort : ℕ → List ℕ → Bool
-isShort bare input = ltb 0 (length (left_of bare input))
+unfoldable pub is_short : ℕ → List ℕ → Bool
+is_short bare input = ltb 0 (length (left_of bare input))
 
 -- what is said at the end of an input: this line where it ends inside a call, and otherwise nothing
-unfoldable pub shortTail : ℕ → List ℕ → List ℕ → List ℕ
-shortTail bare line input = cond (isShort bare input) line []
+unfoldable pub short_tail : ℕ → List ℕ → List ℕ → List ℕ
+short_tail bare line input = cond (is_short bare input) line []
 
 -- the bytes of calls that stand one after another
-unfoldable pub framedBytes : List Framed → List ℕ
-framedBytes [] = []
-framedBytes ((word, bytes) ∷ later) = word_bytes word ++ (bytes ++ framedBytes later)
+unfoldable pub framed_bytes : List Framed → List ℕ
+framed_bytes [] = []
+framed_bytes ((word, bytes) ∷ later) = word_bytes word ++ (bytes ++ framed_bytes later)

@@ -2,11 +2,11 @@
 ghost use Rattle.std.specs.Prelude.{◌≡◌, ◌++◌, map, ◌-◌, ◌≤◌};
 ghost use Rattle.std.proofs.lemmas.List.Edits.{sets};
 ghost use Rattle.kit.specs.Bytes.{word_bytes};
-ghost use Rattle.telegram.specs.Tables.{packets, firstPacket};
-ghost use Rattle.telegram.specs.Telegrams.{packetIn};
-ghost use Rattle.memory.specs.Memory.{stepFrom, heldFrom, flagByte, flagsAt};
+ghost use Rattle.telegram.specs.Tables.{packets, first_packet};
+ghost use Rattle.telegram.specs.Telegrams.{packet_in};
+ghost use Rattle.memory.specs.Memory.{step_from, held_from, flag_byte, flags_at};
 ghost use Rattle.hand.specs.Sets.{is_held, is_whole};
-ghost use Rattle.hand.specs.Lent.{handIn, handBytes, begunIn, fourIn, joinedIn};
+ghost use Rattle.hand.specs.Lent.{hand_in, hand_bytes, begun_in, four_in, joined_in};
 
 use condition::Slot;
 use telegram::FIRST_PACKET;
@@ -30,7 +30,7 @@ pub struct Hand {
 
 // A set with nothing in it begins.
 pub fn begin(memory: &mut [u8; 310], step: u16)
-    ensures { memory.new ≡ begunIn memory.old step }
+    ensures { memory.new ≡ begun_in memory.old step }
 {
     memory[STEP] = (step / 256) as u8;
     memory[STEP + 1] = (step % 256) as u8;
@@ -43,7 +43,7 @@ pub fn begin(memory: &mut [u8; 310], step: u16)
 
 // The step number of the set.
 pub fn step_of(memory: &[u8; 310]) -> u16
-    ensures { result ≡ (handIn memory.now).step }
+    ensures { result ≡ (hand_in memory.now).step }
 {
     wire::word(memory[STEP], memory[STEP + 1])
 }
@@ -51,7 +51,7 @@ pub fn step_of(memory: &[u8; 310]) -> u16
 // Where a packet stands among the five: 0 for packet 3. Packets 0 to 2 are taken as packet 3, and those above 7 lie past the five: the
 // reader gives neither.
 fn place_of(packet: u8) -> usize
-    ensures { result ≡ packet - firstPacket }
+    ensures { result ≡ packet - first_packet }
 {
     if packet < FIRST_PACKET {
         return 0;
@@ -61,7 +61,7 @@ fn place_of(packet: u8) -> usize
 
 // Whether a packet is held.
 pub fn is_held(memory: &[u8; 310], packet: u8) -> bool
-    ensures { result ≡ is_held (handIn memory.now) packet }
+    ensures { result ≡ is_held (hand_in memory.now) packet }
 {
     let k = place_of(packet);
     if k < PACKETS {
@@ -72,7 +72,7 @@ pub fn is_held(memory: &[u8; 310], packet: u8) -> bool
 
 // The packet number of a telegram, 0 to 7.
 fn packet_in(telegram: &[u8]) -> u8
-    ensures { (result ≡ packetIn telegram.now) × (result ≤ 7) }
+    ensures { (result ≡ packet_in telegram.now) × (result ≤ 7) }
 {
     (wire::word_at(telegram, 0) / STEPS) as u8
 }
@@ -80,7 +80,7 @@ fn packet_in(telegram: &[u8]) -> u8
 // The four slots of a telegram from slot i of the set on. The test is never met; by it the compiler knows that each of the four has a place.
 fn put_four(memory: &mut [u8; 310], i: usize, telegram: &[u8])
     requires { i ≤ 16 }
-    ensures { memory.new ≡ fourIn telegram.now i memory.old 4 }
+    ensures { memory.new ≡ four_in telegram.now i memory.old 4 }
 {
     if i > 16 {
         return;
@@ -94,7 +94,7 @@ fn put_four(memory: &mut [u8; 310], i: usize, telegram: &[u8])
 
 // A telegram goes into the set.
 pub fn join(memory: &mut [u8; 310], telegram: &[u8])
-    ensures { memory.new ≡ joinedIn memory.old telegram.now }
+    ensures { memory.new ≡ joined_in memory.old telegram.now }
 {
     let packet = packet_in(telegram);
     memory[HELD + place_of(packet)] = 1;
@@ -103,7 +103,7 @@ pub fn join(memory: &mut [u8; 310], telegram: &[u8])
 
 // Whether five packets are held.
 pub fn is_whole(memory: &[u8; 310]) -> bool
-    ensures { result ≡ is_whole (handIn memory.now) }
+    ensures { result ≡ is_whole (hand_in memory.now) }
 {
     let mut k: usize = 0;
     while k < PACKETS {
@@ -117,7 +117,7 @@ pub fn is_whole(memory: &[u8; 310]) -> bool
 
 // Which of the five packets are held.
 fn held_in(memory: &[u8; 310]) -> [bool; 5]
-    ensures { result ≡ flagsAt memory.now heldFrom packets }
+    ensures { result ≡ flags_at memory.now held_from packets }
 {
     let mut held = [false; 5];
     let mut k: usize = 0;
@@ -130,7 +130,7 @@ fn held_in(memory: &[u8; 310]) -> [bool; 5]
 
 // The set by value.
 pub fn hand_in(memory: &[u8; 310]) -> Hand
-    ensures { result ≡ handIn memory.now }
+    ensures { result ≡ hand_in memory.now }
 {
     let step = step_of(memory);
     let held = held_in(memory);
@@ -140,7 +140,7 @@ pub fn hand_in(memory: &[u8; 310]) -> Hand
 
 // The step number of a set, and which of the five packets are held.
 fn put_front(memory: &mut [u8; 310], step: u16, held: [bool; 5])
-    ensures { memory.new ≡ sets memory.old stepFrom (word_bytes step ++ map flagByte held) }
+    ensures { memory.new ≡ sets memory.old step_from (word_bytes step ++ map flag_byte held) }
 {
     memory[STEP] = (step / 256) as u8;
     memory[STEP + 1] = (step % 256) as u8;
@@ -153,7 +153,7 @@ fn put_front(memory: &mut [u8; 310], step: u16, held: [bool; 5])
 
 // A set put into the memory.
 pub fn put_hand(memory: &mut [u8; 310], hand: Hand)
-    ensures { memory.new ≡ sets memory.old stepFrom (handBytes hand) }
+    ensures { memory.new ≡ sets memory.old step_from (hand_bytes hand) }
 {
     let held = hand.held;
     let slots = hand.slots;

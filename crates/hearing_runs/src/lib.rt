@@ -2,15 +2,15 @@
 // them, in a lent buffer.
 ghost use Rattle.std.specs.Prelude.{◌≡◌};
 ghost use Rattle.kit.specs.Put.{Poured};
-ghost use Rattle.listener.specs.Lent.{listenerIn};
-ghost use Rattle.listing_tables.specs.Tables.{heardLines};
-ghost use Rattle.lister.specs.Hearings.{heardBy};
-ghost use Rattle.hearing_runs.specs.Runs.{linesHeard};
+ghost use Rattle.listener.specs.Lent.{listener_in};
+ghost use Rattle.listing_tables.specs.Tables.{heard_lines};
+ghost use Rattle.lister.specs.Hearings.{heard_by};
+ghost use Rattle.hearing_runs.specs.Runs.{lines_heard};
 
 // Hears one telegram in lent memory, and puts its lines.
 fn hear_next(memory: &mut [u8; 310], telegram: &[u8], lines: &mut [u8], at: usize) -> usize
-    ensures { (listenerIn memory.new ≡ (heardBy (listenerIn memory.old) telegram.now).listener)
-        × Poured lines.old at (heardLines (heardBy (listenerIn memory.old) telegram.now)) lines.new result }
+    ensures { (listener_in memory.new ≡ (heard_by (listener_in memory.old) telegram.now).listener)
+        × Poured lines.old at (heard_lines (heard_by (listener_in memory.old) telegram.now)) lines.new result }
 {
     let answer = listener::hear_in(memory, telegram);
     listing_tables::put_heard(answer, memory, lines, at)
@@ -19,7 +19,7 @@ fn hear_next(memory: &mut [u8; 310], telegram: &[u8], lines: &mut [u8], at: usiz
 // The lines of all telegrams, heard by a fresh listener, and `short telegram` where the input ends inside one; the answer is the place
 // past them. What has no room before the buffer's end is dropped.
 pub fn hear(input: &[u8], lines: &mut [u8]) -> usize
-    ensures { Poured lines.old 0 (linesHeard input.now) lines.new result }
+    ensures { Poured lines.old 0 (lines_heard input.now) lines.new result }
 {
     let mut memory = [0u8; 310];
     let mut rest = input;

@@ -6,32 +6,32 @@ use lib.Dec.{leb}
 use native.Mathlib.Omega.{arith}
 use borrow.Author.Tests.{leb-true, leb-false}
 use Rattle.kit.specs.Bytes.{bit}
-use Rattle.kit.proofs.Bits.{bit-zero, bit-beside, bit-above}
+use Rattle.kit.proofs.Bits.{bit-zero, bit_beside, bit-above}
 use Rattle.kit.proofs.Cases.{on}
-use Rattle.kinds.specs.Words.{countryIn, isConsidered, isUnfitted, isIdle, secondHeld}
+use Rattle.kinds.specs.Words.{country_in, is_considered, is_unfitted, is_idle, second_held}
 
 module _ (second : ℕ) where
   -- its country bits zero
   abbrev cleared : ℕ
-  cleared = second - countryIn second * 16
+  cleared = second - country_in second * 16
 
-  below-country : (b : ℕ) → b < 4 → bit b cleared ≡ bit b second
-  below-country b p =
+  below_country : (b : ℕ) → b < 4 → bit b cleared ≡ bit b second
+  below_country b p =
       let left : cleared ≡ second / 0x4000 * 1024 * 2 ^ 4 + second % 16 = omega arith in
       let right : second ≡ second / 16 * 2 ^ 4 + second % 16 = omega arith in
       ap (bit b) left
-      ∙ (bit-beside 4 b (second / 0x4000 * 1024) (second % 16) p ∙ (sym (bit-beside 4 b (second / 16) (second % 16) p) ∙ ap (bit b) (sym right)))
+      ∙ (bit_beside 4 b (second / 0x4000 * 1024) (second % 16) p ∙ (sym (bit_beside 4 b (second / 16) (second % 16) p) ∙ ap (bit b) (sym right)))
 
-  in-country : (b : ℕ) → 4 ≤ b → b ≤ 13 → bit b cleared ≡ false
-  in-country b p q =
+  in_country : (b : ℕ) → 4 ≤ b → b ≤ 13 → bit b cleared ≡ false
+  in_country b p q =
       let split : b ≡ (b - 4) + 4 = omega arith in
       let left : cleared / 2 ^ 4 ≡ second / 0x4000 * 2 ^ 10 + 0 = omega arith in
       ap (λ i. bit i cleared) split
       ∙ (bit-above 4 (b - 4) cleared
-      ∙ (ap (bit (b - 4)) left ∙ (bit-beside 10 (b - 4) (second / 0x4000) 0 (omega arith) ∙ bit-zero (b - 4))))
+      ∙ (ap (bit (b - 4)) left ∙ (bit_beside 10 (b - 4) (second / 0x4000) 0 (omega arith) ∙ bit-zero (b - 4))))
 
-  above-country : (b : ℕ) → 14 ≤ b → bit b cleared ≡ bit b second
-  above-country b p =
+  above_country : (b : ℕ) → 14 ≤ b → bit b cleared ≡ bit b second
+  above_country b p =
       let split : b ≡ (b - 14) + 14 = omega arith in
       let same : cleared / 2 ^ 14 ≡ second / 2 ^ 14 = omega arith in
       ap (λ i. bit i cleared) split
@@ -43,13 +43,13 @@ module _ (second : ℕ) where
       on (leb 4 b)
       (λ low.
       on (leb b 13)
-      (λ high. rw (low, high) (in-country b (leb-true 4 b low) (leb-true b 13 high)))
-      (λ high. rw (low, high) (above-country b (omega (arith, leb-false b 13 high)))))
-      (λ low. rw low (below-country b (leb-false 4 b low)))
+      (λ high. rw (low, high) (in_country b (leb-true 4 b low) (leb-true b 13 high)))
+      (λ high. rw (low, high) (above_country b (omega (arith, leb-false b 13 high)))))
+      (λ low. rw low (below_country b (leb-false 4 b low)))
 
-pub held-bit : (kind first second b : ℕ) → bit b (secondHeld kind first second) ≡ cond (isIdle kind first second b) false (bit b second)
-unfolding secondHeld isIdle
+pub held-bit : (kind first second b : ℕ) → bit b (second_held kind first second) ≡ cond (is_idle kind first second b) false (bit b second)
+unfolding second_held is_idle
 held-bit kind first second b =
-    on (isConsidered kind first)
-    (λ e. on (isUnfitted kind second) (λ f. rw (e, f) (cleared-bit second b)) (λ f. rw (e, f) refl))
+    on (is_considered kind first)
+    (λ e. on (is_unfitted kind second) (λ f. rw (e, f) (cleared-bit second b)) (λ f. rw (e, f) refl))
     (λ e. rw e (bit-zero b))

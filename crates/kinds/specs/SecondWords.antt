@@ -7,8 +7,8 @@ use Rattle.kit.specs.Loops.{any}
 use Rattle.kinds.specs.declared.second_words.Row.{Row}
 
 -- CR4-1, K-02 to K-04: type, bits that must be zero, bits that are looked at, the lowest and the highest number that these may be
-unfoldable pub secondWords : List Row
-secondWords =
+unfoldable pub second_words : List Row
+second_words =
     (1, 0x0000, 0xFFFF, 0, 65535)  -- OBU_TR_PG_D_Exit, m, Table 5-24
     ∷ (2, 0x0000, 0xFFFF, 0, 65535)  -- OBU_TR_AT_D_Exit, m, Table 5-24
     ∷ (3, 0x0000, 0xFFFF, 0, 65535)  -- OBU_TR_MPS_D_Exit, m, Table 5-24
@@ -22,44 +22,44 @@ secondWords =
     ∷ []
 
 -- the five columns of a row
-abbrev pub typeIn : Row → ℕ
-typeIn row = row.0
+abbrev pub type_in : Row → ℕ
+type_in row = row.0
 
-abbrev pub zerosIn : Row → ℕ
-zerosIn row = row.1
+abbrev pub zeros_in : Row → ℕ
+zeros_in row = row.1
 
-abbrev pub lookedIn : Row → ℕ
-lookedIn row = row.2
+abbrev pub looked_in : Row → ℕ
+looked_in row = row.2
 
-abbrev pub lowIn : Row → ℕ
-lowIn row = row.3
+abbrev pub low_in : Row → ℕ
+low_in row = row.3
 
-abbrev pub highIn : Row → ℕ
-highIn row = row.4
+abbrev pub high_in : Row → ℕ
+high_in row = row.4
 
 -- CR4-1, A-46: a word, of sixteen bits, is one of those of a row: of the bits that must be zero none is set, and the bits that are looked at
 -- are a number from the lowest to the highest
 unfoldable pub fits : Row → ℕ → Bool
 fits row word =
     ltb word 0x10000
-    && eqb (bit_and word (zerosIn row)) 0
-    && leb (lowIn row) (bit_and word (lookedIn row))
-    && leb (bit_and word (lookedIn row)) (highIn row)
+    && eqb (bit_and word (zeros_in row)) 0
+    && leb (low_in row) (bit_and word (looked_in row))
+    && leb (bit_and word (looked_in row)) (high_in row)
 
 -- CR4-1: a row is one of the type's; and it has the word
 abbrev pub is_of : ℕ → Row → Bool
-is_of kind row = eqb (typeIn row) kind
+is_of kind row = eqb (type_in row) kind
 
-abbrev pub hasWord : ℕ → ℕ → Row → Bool
-hasWord kind word row = is_of kind row && fits row word
+abbrev pub has_word : ℕ → ℕ → Row → Bool
+has_word kind word row = is_of kind row && fits row word
 
 -- row i of the page, from 0; and whether one of its rows is such
 abbrev pub row_at : ℕ → Row
-row_at i = get_or secondWords i (0, 0, 0, 0, 0)
+row_at i = get_or second_words i (0, 0, 0, 0, 0)
 
-abbrev pub someRow : (Row → Bool) → Bool
-someRow such = any (λ i. such (row_at i)) 0 (length secondWords)
+abbrev pub some_row : (Row → Bool) → Bool
+some_row such = any (λ i. such (row_at i)) 0 (length second_words)
 
 -- CR4-1: a type allows the words of its rows; Q-5: a type without a row allows every word
-unfoldable pub onPage : ℕ → ℕ → Bool
-onPage kind word = not (someRow (is_of kind)) || someRow (hasWord kind word)
+unfoldable pub on_page : ℕ → ℕ → Bool
+on_page kind word = not (some_row (is_of kind)) || some_row (has_word kind word)

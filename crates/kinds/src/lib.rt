@@ -1,6 +1,6 @@
 // The types of conditions, their two words, and which second words a type allows.
 ghost use Rattle.std.specs.Prelude.{◌≡◌};
-ghost use Rattle.kinds.specs.Words.{is_type, isTractionWord, isCurrentWord, isConsidered, isUnfitted, secondAllowed, secondHeld};
+ghost use Rattle.kinds.specs.Words.{is_type, is_traction_word, is_current_word, is_considered, is_unfitted, second_allowed, second_held};
 
 mod second_words;
 
@@ -39,7 +39,7 @@ pub fn is_kind(kind: u8) -> bool
 
 // Whether the second word is looked at: not for a change of traction system or of current whose change distance is missing.
 fn considered(kind: u8, first: u16) -> bool
-    ensures { result ≡ isConsidered kind first }
+    ensures { result ≡ is_considered kind first }
 {
     if first != NO_VALUE {
         return true;
@@ -52,7 +52,7 @@ fn considered(kind: u8, first: u16) -> bool
 
 // Whether the country is not looked at: a change of traction system with voltage 0, where the line is fitted with none.
 fn unfitted(kind: u8, second: u16) -> bool
-    ensures { result ≡ isUnfitted kind second }
+    ensures { result ≡ is_unfitted kind second }
 {
     if kind == TRACTION {
         return second % VOLTAGES == 0;
@@ -61,7 +61,7 @@ fn unfitted(kind: u8, second: u16) -> bool
 }
 
 fn traction_word(second: u16) -> bool
-    ensures { result ≡ isTractionWord second }
+    ensures { result ≡ is_traction_word second }
 {
     if second < ABOVE_COUNTRY {
         return second % VOLTAGES <= VOLTAGE_MOST;
@@ -70,7 +70,7 @@ fn traction_word(second: u16) -> bool
 }
 
 fn current_word(second: u16) -> bool
-    ensures { result ≡ isCurrentWord second }
+    ensures { result ≡ is_current_word second }
 {
     if second <= LIMIT_MOST {
         return true;
@@ -80,7 +80,7 @@ fn current_word(second: u16) -> bool
 
 // Whether the second word is allowed for the type (row 6). Between entry and exit no order is asked.
 pub fn second_allowed(kind: u8, first: u16, second: u16) -> bool
-    ensures { result ≡ secondAllowed kind first second }
+    ensures { result ≡ second_allowed kind first second }
 {
     if !considered(kind, first) {
         return true;
@@ -96,7 +96,7 @@ pub fn second_allowed(kind: u8, first: u16, second: u16) -> bool
 
 // The second word as a desk and a reader hold it: zero without a change distance, and with voltage 0 without its country.
 pub fn second_held(kind: u8, first: u16, second: u16) -> u16
-    ensures { result ≡ secondHeld kind first second }
+    ensures { result ≡ second_held kind first second }
 {
     if considered(kind, first) {
         if unfitted(kind, second) {

@@ -1,6 +1,6 @@
 // The page of second words, which words each type allows, and the check that looks them up on it.
 ghost use Rattle.std.specs.Prelude.{◌≡◌};
-ghost use Rattle.kinds.specs.SecondWords.{hasWord, onPage};
+ghost use Rattle.kinds.specs.SecondWords.{has_word, on_page};
 
 // A row: a type, the bits of its second word that must be zero, the bits that are looked at, and the lowest and the highest number that
 // these may be.
@@ -24,7 +24,7 @@ const PAGE: [Row; ROWS] = [
 
 // Whether a row is one of the type's and has the word.
 fn has_word(row: Row, kind: u8, word: u16) -> bool
-    ensures { result ≡ hasWord kind word row }
+    ensures { result ≡ has_word kind word row }
 {
     let Row(of, zeros, looked, low, high) = row;
     if of != kind {
@@ -43,7 +43,7 @@ fn has_word(row: Row, kind: u8, word: u16) -> bool
 // Whether the page allows a word for a type: one of the type's rows has it, or the type has no row. The page is copied once, before the
 // loop: the compiler then sees through it, and what runs is a few comparisons.
 pub fn on_page(kind: u8, word: u16) -> bool
-    ensures { result ≡ onPage kind word }
+    ensures { result ≡ on_page kind word }
 {
     let page = PAGE;
     let mut known = false;

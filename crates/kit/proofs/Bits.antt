@@ -17,11 +17,11 @@ doubled : (i m n : ℕ) → ((j : ℕ) → i ≡ suc j → bit j (m + n / 2) ≡
 doubled zero m n halves = let same : (m * 2 + n) % 2 ≡ n % 2 = omega arith in ap (λ r. eqb r 1) same
 doubled (suc j) m n halves = let half : (m * 2 + n) / 2 ≡ m + n / 2 = omega arith in ap (bit j) half ∙ halves j refl
 
-pub bit-beside : (k i m n : ℕ) → i < k → bit i (m * 2 ^ k + n) ≡ bit i n
-bit-beside zero i m n p = absurd (omega arith)
-bit-beside (suc k) i m n p =
+pub bit_beside : (k i m n : ℕ) → i < k → bit i (m * 2 ^ k + n) ≡ bit i n
+bit_beside zero i m n p = absurd (omega arith)
+bit_beside (suc k) i m n p =
     let twice : m * 2 ^ suc k ≡ m * 2 ^ k * 2 = ap (λ power. m * power) (pow-suc 2 k) ∙ sym (mul_assoc m (2 ^ k) 2) in
-    ap (λ x. bit i (x + n)) twice ∙ doubled i (m * 2 ^ k) n (λ j e. bit-beside k j m (n / 2) (omega arith))
+    ap (λ x. bit i (x + n)) twice ∙ doubled i (m * 2 ^ k) n (λ j e. bit_beside k j m (n / 2) (omega arith))
 
 pub bit-above : (k i n : ℕ) → bit (i + k) n ≡ bit i (n / 2 ^ k)
 bit-above zero i n = let whole : n ≡ n / 2 ^ 0 = omega arith in ap (λ j. bit j n) (add-zero i) ∙ ap (bit i) whole
@@ -31,7 +31,7 @@ bit-above (suc k) i n =
 
 -- of a word, the byte below has the lower eight; and a byte has no others
 pub bit-low : (i n : ℕ) → i < 8 → bit i (n % 256) ≡ bit i n
-bit-low i n p = let parts : n / 256 * 2 ^ 8 + n % 256 ≡ n = omega arith in sym (bit-beside 8 i (n / 256) (n % 256) p) ∙ ap (bit i) parts
+bit-low i n p = let parts : n / 256 * 2 ^ 8 + n % 256 ≡ n = omega arith in sym (bit_beside 8 i (n / 256) (n % 256) p) ∙ ap (bit i) parts
 
 pub bit_past : (i n : ℕ) → 8 ≤ i → n < 256 → bit i n ≡ false
 bit_past i n p q =

@@ -18,9 +18,9 @@ clash {test} p q = let z : ◌≡◌ {A = ℕ} 0 1 = cc in omega arith
 pub given {ℓ} : {A : Type ℓ} {C : Type 0} → A → (A → C) → C
 given a f = f a
 
-pub or-neither : (a b : Bool) → a || b ≡ false → (a ≡ false) × (b ≡ false)
-or-neither true b h = absurd (clash refl h)
-or-neither false b h = (refl, h)
+pub or_neither : (a b : Bool) → a || b ≡ false → (a ≡ false) × (b ≡ false)
+or_neither true b h = absurd (clash refl h)
+or_neither false b h = (refl, h)
 
 pub and_both : (a b : Bool) → a && b ≡ true → (a ≡ true) × (b ≡ true)
 and_both true b h = (refl, h)

@@ -58,8 +58,8 @@ module _ {A : Type 0} (of : ℕ → A) (n : ℕ) where
   pub length-one-each : length (each (λ i. of i ∷ []) 0 n) ≡ n
   length-one-each = omega (arith, length-each (λ i. of i ∷ []) 1 (λ i. refl) 0 n)
 
-  pub one-each-at : (other : A) (j : ℕ) → j < n → get_or (each (λ i. of i ∷ []) 0 n) j other ≡ of j
-  one-each-at other j p =
+  pub one-each_at : (other : A) (j : ℕ) → j < n → get_or (each (λ i. of i ∷ []) 0 n) j other ≡ of j
+  one-each_at other j p =
       let e : j ≡ j * 1 + 0 = omega arith in
       let f : 0 + j ≡ j = omega arith in
       ap (λ (x : ℕ). get_or (each (λ i. of i ∷ []) 0 n) x other) e ∙ (each_at (λ i. of i ∷ []) 1 (λ i. refl) other 0 n j 0 p (omega arith) ∙ ap of f)

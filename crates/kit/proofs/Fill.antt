@@ -30,12 +30,12 @@ module _ {A : Type 0} {other : A} {target : List A} where
   filled-all {so_far} {n} all f = ext_get_or other so_far target f.long (λ i p. f.same i (omega (arith, f.long)))
 
 module _ {A B : Type 0} (f : A → B) (xs : List A) {other : B} where
-  pub mapped-none : {start : List B} → length start ≡ length xs → Filled other (map f xs) 0 start
-  mapped-none long = filled_none (long ∙ sym (length-map xs f))
+  pub mapped_none : {start : List B} → length start ≡ length xs → Filled other (map f xs) 0 start
+  mapped_none long = filled_none (long ∙ sym (length-map xs f))
 
-  pub mapped-more : {so_far : List B} {n : ℕ} {element : B} (outside : A) → n < length xs → Filled other (map f xs) n so_far → element ≡ f (get_or xs n outside)
+  pub mapped_more : {so_far : List B} {n : ℕ} {element : B} (outside : A) → n < length xs → Filled other (map f xs) n so_far → element ≡ f (get_or xs n outside)
       → Filled other (map f xs) (n + 1) (set so_far n element)
-  mapped-more {so_far} {n} {element} outside room filled e = filled_more (omega (arith, length-map xs f)) filled (e ∙ sym (map_at f xs n outside other room))
+  mapped_more {so_far} {n} {element} outside room filled e = filled_more (omega (arith, length-map xs f)) filled (e ∙ sym (map_at f xs n outside other room))
 
-  pub mapped-all : {so_far : List B} {n : ℕ} → length xs ≤ n → Filled other (map f xs) n so_far → so_far ≡ map f xs
-  mapped-all {so_far} {n} all filled = filled-all (omega (arith, length-map xs f)) filled
+  pub mapped_all : {so_far : List B} {n : ℕ} → length xs ≤ n → Filled other (map f xs) n so_far → so_far ≡ map f xs
+  mapped_all {so_far} {n} all filled = filled-all (omega (arith, length-map xs f)) filled

@@ -12,15 +12,15 @@ use native.Mathlib.Omega.{arith}
 use borrow.Author.Tests.{eqb-true, eqb-false}
 use Rattle.kit.specs.Ladder.{ladder, Decides, NoneHolds, above, Numbers, Numbered}
 use Rattle.kit.specs.Each.{each}
-use Rattle.kit.specs.Loops.{firstNonzero, scan}
+use Rattle.kit.specs.Loops.{first_nonzero, scan}
 use Rattle.kit.proofs.Cases.{on, given}
 
 module _ {A : Type 0} where
-  pub ladder-decides : (other answer : A) (rows : List (Bool × A)) → Decides rows answer → ladder other rows ≡ answer
+  pub ladder_decides : (other answer : A) (rows : List (Bool × A)) → Decides rows answer → ladder other rows ≡ answer
   unfolding ladder
-  ladder-decides other answer [] d = absurd d
-  ladder-decides other answer ((t, own) ∷ rows) (inl (e, same)) = rw e same
-  ladder-decides other answer ((t, own) ∷ rows) (inr (e, d)) = rw e (ladder-decides other answer rows d)
+  ladder_decides other answer [] d = absurd d
+  ladder_decides other answer ((t, own) ∷ rows) (inl (e, same)) = rw e same
+  ladder_decides other answer ((t, own) ∷ rows) (inr (e, d)) = rw e (ladder_decides other answer rows d)
 
   pub ladder-silent : (other : A) (rows : List (Bool × A)) → NoneHolds rows → ladder other rows ≡ other
   unfolding ladder
@@ -39,19 +39,19 @@ module _ {A : Type 0} where
       further (inr s) = inr (refl, s)
 
   -- one ladder above another: where the upper one is silent, the lower one answers
-  pub ladder-append : (other : A) (upper lower : List (Bool × A)) → ladder other (upper ++ lower) ≡ ladder (ladder other lower) upper
+  pub ladder_append : (other : A) (upper lower : List (Bool × A)) → ladder other (upper ++ lower) ≡ ladder (ladder other lower) upper
   unfolding ladder
-  ladder-append other [] lower = refl
-  ladder-append other ((t, own) ∷ upper) lower = ap (λ (rest : A). cond t own rest) (ladder-append other upper lower)
+  ladder_append other [] lower = refl
+  ladder_append other ((t, own) ∷ upper) lower = ap (λ (rest : A). cond t own rest) (ladder_append other upper lower)
 
-  pub silent-append : (upper lower : List (Bool × A)) → NoneHolds (upper ++ lower) → NoneHolds upper × NoneHolds lower
-  silent-append [] lower s = (tt, s)
-  silent-append ((t, own) ∷ upper) lower (e, s) = given (silent-append upper lower s) (λ (a, b). ((e, a), b))
+  pub silent_append : (upper lower : List (Bool × A)) → NoneHolds (upper ++ lower) → NoneHolds upper × NoneHolds lower
+  silent_append [] lower s = (tt, s)
+  silent_append ((t, own) ∷ upper) lower (e, s) = given (silent_append upper lower s) (λ (a, b). ((e, a), b))
 
-  pub decides-append : (upper lower : List (Bool × A)) (answer : A) → Decides (upper ++ lower) answer → Decides upper answer ⊎ (NoneHolds upper × Decides lower answer)
-  decides-append [] lower answer d = inr (tt, d)
-  decides-append ((t, own) ∷ upper) lower answer (inl here) = inl (inl here)
-  decides-append ((t, own) ∷ upper) lower answer (inr (e, d)) = further (decides-append upper lower answer d)
+  pub decides_append : (upper lower : List (Bool × A)) (answer : A) → Decides (upper ++ lower) answer → Decides upper answer ⊎ (NoneHolds upper × Decides lower answer)
+  decides_append [] lower answer d = inr (tt, d)
+  decides_append ((t, own) ∷ upper) lower answer (inl here) = inl (inl here)
+  decides_append ((t, own) ∷ upper) lower answer (inr (e, d)) = further (decides_append upper lower answer d)
     where
       further : Decides upper answer ⊎ (NoneHolds upper × Decides lower answer) → Decides ((t, own) ∷ upper) answer ⊎ (NoneHolds ((t, own) ∷ upper) × Decides lower answer)
       further (inl above) = inl (inr (e, above))
@@ -65,7 +65,7 @@ module _ {A : Type 0} where
   unfolding each
   silent-each rows k zero s i p q = absurd (omega arith)
   silent-each rows k (suc n) s i p q =
-      given (silent-append (rows k) (each rows (k + 1) n) s)
+      given (silent_append (rows k) (each rows (k + 1) n) s)
       (λ (a, b). on (eqb k i) (λ e. subst (λ j. NoneHolds (rows j)) (eqb-true k i e) a) (λ e. silent-each rows (k + 1) n b i (omega (arith, eqb-false k i e)) (omega arith)))
 
   pub silent-all : (rows : ℕ → List (Bool × A)) (k n : ℕ) → ((i : ℕ) → k ≤ i → i < k + n → NoneHolds (rows i)) → NoneHolds (each rows k n)
@@ -73,27 +73,27 @@ module _ {A : Type 0} where
   silent-all rows k zero s = tt
   silent-all rows k (suc n) s = silent-join (rows k) (each rows (k + 1) n) (s k (omega arith) (omega arith)) (silent-all rows (k + 1) n (λ i p q. s i (omega arith) (omega arith)))
 
-pub numbered-append : (upper lower : List (Bool × ℕ)) → Numbered upper → Numbered lower → Numbered (upper ++ lower)
-numbered-append [] lower a b = b
-numbered-append ((t, own) ∷ upper) lower (e, a) b = (e, numbered-append upper lower a b)
+pub numbered_append : (upper lower : List (Bool × ℕ)) → Numbered upper → Numbered lower → Numbered (upper ++ lower)
+numbered_append [] lower a b = b
+numbered_append ((t, own) ∷ upper) lower (e, a) b = (e, numbered_append upper lower a b)
 
 pub numbered-each : (rows : ℕ → List (Bool × ℕ)) → ((i : ℕ) → Numbered (rows i)) → (k n : ℕ) → Numbered (each rows k n)
 unfolding each
 numbered-each rows a k zero = tt
-numbered-each rows a k (suc n) = numbered-append (rows k) (each rows (k + 1) n) (a k) (numbered-each rows a (k + 1) n)
+numbered-each rows a k (suc n) = numbered_append (rows k) (each rows (k + 1) n) (a k) (numbered-each rows a (k + 1) n)
 
 -- what is so of each row's number is so of the answer
-pub decides-such : (Such : ℕ → Type 0) (rows : List (Bool × ℕ)) (n : ℕ) → Numbers Such rows → Decides rows n → Such n
-decides-such Such [] n a d = absurd d
-decides-such Such ((t, own) ∷ rows) n (p, a) (inl (e, same)) = subst Such same p
-decides-such Such ((t, own) ∷ rows) n (p, a) (inr (e, d)) = decides-such Such rows n a d
+pub decides_such : (Such : ℕ → Type 0) (rows : List (Bool × ℕ)) (n : ℕ) → Numbers Such rows → Decides rows n → Such n
+decides_such Such [] n a d = absurd d
+decides_such Such ((t, own) ∷ rows) n (p, a) (inl (e, same)) = subst Such same p
+decides_such Such ((t, own) ∷ rows) n (p, a) (inr (e, d)) = decides_such Such rows n a d
 
-pub decides-positive : (rows : List (Bool × ℕ)) (n : ℕ) → Numbered rows → Decides rows n → 1 ≤ n
-decides-positive = decides-such (λ n. 1 ≤ n)
+pub decides_positive : (rows : List (Bool × ℕ)) (n : ℕ) → Numbered rows → Decides rows n → 1 ≤ n
+decides_positive = decides_such (λ n. 1 ≤ n)
 
 module _ (rows : List (Bool × ℕ)) (numbered : Numbered rows) where
   pub refused-exactly : (n : ℕ) → 1 ≤ n → (ladder 0 rows ≡ n) ↔ Decides rows n
-  refused-exactly n p = (λ e. go e (climb 0 rows), ladder-decides 0 n rows)
+  refused-exactly n p = (λ e. go e (climb 0 rows), ladder_decides 0 n rows)
     where
       go : ladder 0 rows ≡ n → Decides rows (ladder 0 rows) ⊎ NoneHolds rows → Decides rows n
       go e (inl d) = subst (Decides rows) e d
@@ -103,33 +103,33 @@ module _ (rows : List (Bool × ℕ)) (numbered : Numbered rows) where
   passed-exactly = (λ e. go e (climb 0 rows), ladder-silent 0 rows)
     where
       go : ladder 0 rows ≡ 0 → Decides rows (ladder 0 rows) ⊎ NoneHolds rows → NoneHolds rows
-      go e (inl d) = absurd (omega (arith, decides-positive rows (ladder 0 rows) numbered d))
+      go e (inl d) = absurd (omega (arith, decides_positive rows (ladder 0 rows) numbered d))
       go e (inr s) = s
 
   -- a ladder that answers keeps its answer whatever stands below it, and one that does not leaves the answer to that
-  pub upper-answers : (other : ℕ) → (ladder 0 rows ≡ 0 → ⊥) → ladder other rows ≡ ladder 0 rows
-  upper-answers other n = go (climb 0 rows)
+  pub upper_answers : (other : ℕ) → (ladder 0 rows ≡ 0 → ⊥) → ladder other rows ≡ ladder 0 rows
+  upper_answers other n = go (climb 0 rows)
     where
       go : Decides rows (ladder 0 rows) ⊎ NoneHolds rows → ladder other rows ≡ ladder 0 rows
-      go (inl d) = ladder-decides other (ladder 0 rows) rows d
+      go (inl d) = ladder_decides other (ladder 0 rows) rows d
       go (inr s) = absurd (n (ladder-silent 0 rows s))
 
-  pub lower-answers : (other : ℕ) → ladder 0 rows ≡ 0 → ladder other rows ≡ other
-  lower-answers other e = ladder-silent other rows (passed-exactly.0 e)
+  pub lower_answers : (other : ℕ) → ladder 0 rows ≡ 0 → ladder other rows ≡ other
+  lower_answers other e = ladder-silent other rows (passed-exactly.0 e)
 
-pub above-append : (upper lower : List (Bool × ℕ)) → Numbered upper → ladder 0 (upper ++ lower) ≡ above (ladder 0 upper) (ladder 0 lower)
+pub above_append : (upper lower : List (Bool × ℕ)) → Numbered upper → ladder 0 (upper ++ lower) ≡ above (ladder 0 upper) (ladder 0 lower)
 unfolding above
-above-append upper lower numbered =
-    ladder-append 0 upper lower
+above_append upper lower numbered =
+    ladder_append 0 upper lower
     ∙ on (eqb (ladder 0 upper) 0)
-    (λ e. rw e (lower-answers upper numbered (ladder 0 lower) (eqb-true _ 0 e)))
-    (λ e. rw e (upper-answers upper numbered (ladder 0 lower) (eqb-false _ 0 e)))
+    (λ e. rw e (lower_answers upper numbered (ladder 0 lower) (eqb-true _ 0 e)))
+    (λ e. rw e (upper_answers upper numbered (ladder 0 lower) (eqb-false _ 0 e)))
 
 -- the ladder of several things answers as the first of them that has a row that holds: "the first bad slot, within it .."
 pub ladder-each : (rows : ℕ → List (Bool × ℕ)) → ((i : ℕ) → Numbered (rows i)) → (k n : ℕ)
-    → ladder 0 (each rows k n) ≡ firstNonzero (λ i. ladder 0 (rows i)) k n
+    → ladder 0 (each rows k n) ≡ first_nonzero (λ i. ladder 0 (rows i)) k n
 unfolding each ladder scan above
 ladder-each rows a k zero = refl
 ladder-each rows a k (suc n) =
-    above-append (rows k) (each rows (k + 1) n) (a k)
+    above_append (rows k) (each rows (k + 1) n) (a k)
     ∙ on (eqb (ladder 0 (rows k)) 0) (λ e. rw e (ladder-each rows a (k + 1) n)) (λ e. rw e refl)

@@ -6,7 +6,7 @@ use lib.Dec.{eqb}
 use native.Mathlib.Omega.{arith}
 use borrow.Author.Tests.{eqb-true, eqb-false, eq-eqb, ne_eqb, ltb-true, ltb-false}
 use native.Mathlib.Numerals.{add-one}
-use Rattle.kit.specs.Loops.{scan, fold, any, firstNonzero, find, found, howMany}
+use Rattle.kit.specs.Loops.{scan, fold, any, first_nonzero, find, found, how_many}
 use Rattle.kit.proofs.Cases.{on, clash, given}
 
 left-suc : (n k : ℕ) → k < n → n - k ≡ suc (n - (k + 1))
@@ -21,9 +21,9 @@ module _ {A : Type 0} (leaves : ℕ → Bool) (answer : ℕ → A) (other : A) w
   unfolding scan
   scan-go n k h e = rw (left-suc n k h) (simp e)
 
-  pub scan-hit : (n k : ℕ) → k < n → leaves k ≡ true → scan leaves answer other k (n - k) ≡ answer k
+  pub scan_hit : (n k : ℕ) → k < n → leaves k ≡ true → scan leaves answer other k (n - k) ≡ answer k
   unfolding scan
-  scan-hit n k h e = rw (left-suc n k h) (simp e)
+  scan_hit n k h e = rw (left-suc n k h) (simp e)
 
   pub scan-end : (n k : ℕ) → n ≤ k → scan leaves answer other k (n - k) ≡ other
   unfolding scan
@@ -74,16 +74,16 @@ module _ (test : ℕ → Bool) where
   pub found_none : (n j : ℕ) → found test n ≡ false → j < n → test j ≡ false
   found_none n j h p = find-before n j (omega (arith, ltb-false (find test n) n h))
 
-  pub found-when : (n j : ℕ) → j < n → test j ≡ true → found test n ≡ true
-  found-when n j p t = on (found test n) (λ e. e) (λ e. absurd (clash t (found_none n j e p)))
+  pub found_when : (n j : ℕ) → j < n → test j ≡ true → found test n ≡ true
+  found_when n j p t = on (found test n) (λ e. e) (λ e. absurd (clash t (found_none n j e p)))
 
--- the turns of `firstNonzero`, by whether a number is 0
+-- the turns of `first_nonzero`, by whether a number is 0
 module _ (number : ℕ → ℕ) (n k : ℕ) (p : k < n) where
-  pub first-go : number k ≡ 0 → firstNonzero number k (n - k) ≡ firstNonzero number (k + 1) (n - (k + 1))
+  pub first-go : number k ≡ 0 → first_nonzero number k (n - k) ≡ first_nonzero number (k + 1) (n - (k + 1))
   first-go e = scan-go _ _ _ n k p (rw (eq-eqb (number k) 0 e) refl)
 
-  pub first-hit : (number k ≡ 0 → ⊥) → firstNonzero number k (n - k) ≡ number k
-  first-hit e = scan-hit _ _ _ n k p (rw (ne_eqb (number k) 0 e) refl)
+  pub first_hit : (number k ≡ 0 → ⊥) → first_nonzero number k (n - k) ≡ number k
+  first_hit e = scan_hit _ _ _ n k p (rw (ne_eqb (number k) 0 e) refl)
 
 module _ (test : ℕ → Bool) where
   pub any_none : (k n : ℕ) → any test k n ≡ false → (j : ℕ) → k ≤ j → j < k + n → test j ≡ false
@@ -105,17 +105,17 @@ module _ (test : ℕ → Bool) where
       (λ t. (k, omega arith, omega arith, t))
       (λ t. given (any_some (k + 1) n (rw t at h)) (λ (j, a, b, e). (j, omega arith, omega arith, e)))
 
-  pub any-when : (k n j : ℕ) → k ≤ j → j < k + n → test j ≡ true → any test k n ≡ true
-  any-when k n j p q t = on (any test k n) (λ e. e) (λ e. absurd (clash t (any_none k n e j p q)))
+  pub any_when : (k n j : ℕ) → k ≤ j → j < k + n → test j ≡ true → any test k n ≡ true
+  any_when k n j p q t = on (any test k n) (λ e. e) (λ e. absurd (clash t (any_none k n e j p q)))
 
 -- one test more, at the row's end
 pub any-more : (f : ℕ → Bool) (n : ℕ) → any f 0 (n + 1) ≡ any f 0 n || f n
 any-more f n =
     on (any f 0 n)
-    (λ e. given (any_some f 0 n e) (λ (j, p, q, t). rw e (any-when f 0 (n + 1) j p (omega arith) t)))
+    (λ e. given (any_some f 0 n e) (λ (j, p, q, t). rw e (any_when f 0 (n + 1) j p (omega arith) t)))
     (λ e.
     on (f n)
-    (λ t. rw (e, t) (any-when f 0 (n + 1) n (omega arith) (omega arith) t))
+    (λ t. rw (e, t) (any_when f 0 (n + 1) n (omega arith) (omega arith) t))
     (λ t.
     rw (e, t)
     (scan-none f (λ i. true) false 0 (n + 1)
@@ -144,30 +144,30 @@ module _ {A : Type 0} (turn : ℕ → A → A) (start : A) where
 -- a count: at most all, and all exactly when each passes
 module _ (test : ℕ → Bool) where
   -- one turn of a loop that counts
-  pub count_turn : (now next k : ℕ) → now ≡ howMany test k → next ≡ cond (test k) (now + 1) now → next ≡ howMany test (k + 1)
-  unfolding howMany
+  pub count_turn : (now next k : ℕ) → now ≡ how_many test k → next ≡ cond (test k) (now + 1) now → next ≡ how_many test (k + 1)
+  unfolding how_many
   count_turn = fold-turn (λ i so_far. cond (test i) (so_far + 1) so_far) 0
 
-  pub count_none : howMany test 0 ≡ 0
-  unfolding howMany
+  pub count_none : how_many test 0 ≡ 0
+  unfolding how_many
   count_none = fold-none (λ i so_far. cond (test i) (so_far + 1) so_far) 0
 
-  count-suc : (n : ℕ) → howMany test (suc n) ≡ cond (test n) (howMany test n + 1) (howMany test n)
-  unfolding howMany fold
+  count-suc : (n : ℕ) → how_many test (suc n) ≡ cond (test n) (how_many test n + 1) (how_many test n)
+  unfolding how_many fold
   count-suc n = refl
 
-  pub count_most : (n : ℕ) → howMany test n ≤ n
+  pub count_most : (n : ℕ) → how_many test n ≤ n
   count_most zero = omega (arith, count_none)
   count_most (suc n) =
       on (test n)
       (λ t. rw (count-suc n, t) (omega (arith, count_most n)))
       (λ t. rw (count-suc n, t) (omega (arith, count_most n)))
 
-  pub count-all : (n : ℕ) → ((k : ℕ) → k < n → test k ≡ true) → howMany test n ≡ n
+  pub count-all : (n : ℕ) → ((k : ℕ) → k < n → test k ≡ true) → how_many test n ≡ n
   count-all zero each = count_none
   count-all (suc n) each = rw (count-suc n, each n (omega arith)) (omega (arith, count-all n (λ k p. each k (omega arith))))
 
-  pub all-counted : (n : ℕ) → howMany test n ≡ n → (k : ℕ) → k < n → test k ≡ true
+  pub all-counted : (n : ℕ) → how_many test n ≡ n → (k : ℕ) → k < n → test k ≡ true
   all-counted zero full k p = absurd (omega arith)
   all-counted (suc n) full k p =
       on (test n)
@@ -178,7 +178,7 @@ module _ (test : ℕ → Bool) where
       (λ t. absurd (omega (arith, count_most n, rw (count-suc n, t) at full)))
 
 -- tests that agree count the same
-pub count_same : (f g : ℕ → Bool) (n : ℕ) → ((k : ℕ) → k < n → f k ≡ g k) → howMany f n ≡ howMany g n
-unfolding howMany fold
+pub count_same : (f g : ℕ → Bool) (n : ℕ) → ((k : ℕ) → k < n → f k ≡ g k) → how_many f n ≡ how_many g n
+unfolding how_many fold
 count_same f g zero same = refl
 count_same f g (suc n) same = rw (same n (omega arith), count_same f g n (λ k p. same k (omega arith))) refl

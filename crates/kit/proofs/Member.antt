@@ -11,9 +11,9 @@ use borrow.Author.Tests.{eqb-true, eqb-false, eq-eqb, ne_eqb}
 use Rattle.kit.specs.Member.{member, without}
 use Rattle.kit.proofs.Cases.{on, clash, given}
 
-pub member-append : (x : ℕ) (a b : List ℕ) → member x (a ++ b) ≡ member x a || member x b
-member-append x [] b = refl
-member-append x (y ∷ a) b = on (eqb x y) (λ e. rw e refl) (λ e. rw e (member-append x a b))
+pub member_append : (x : ℕ) (a b : List ℕ) → member x (a ++ b) ≡ member x a || member x b
+member_append x [] b = refl
+member_append x (y ∷ a) b = on (eqb x y) (λ e. rw e refl) (λ e. rw e (member_append x a b))
 
 -- what stands at an index of a list is a member of it, and so is what is made of it of what is made of the list
 pub member-map : {A : Type 0} (of : A → ℕ) (other : A) (l : List A) (i : ℕ) → i < length l → member (of (get_or l i other)) (map of l) ≡ true

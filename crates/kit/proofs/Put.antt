@@ -15,19 +15,19 @@ use Rattle.kit.proofs.Cases.{on}
 use Rattle.kit.proofs.Each.{each_next}
 use Rattle.kit.proofs.Stores.{sets-past}
 
-sets-append : (l : List ℕ) (i : ℕ) (a b : List ℕ) → sets (sets l i a) (i + length a) b ≡ sets l i (a ++ b)
-sets-append l i [] b = ap (λ (k : ℕ). sets l k b) (add-zero i)
-sets-append l i (x ∷ a) b =
+sets_append : (l : List ℕ) (i : ℕ) (a b : List ℕ) → sets (sets l i a) (i + length a) b ≡ sets l i (a ++ b)
+sets_append l i [] b = ap (λ (k : ℕ). sets l k b) (add-zero i)
+sets_append l i (x ∷ a) b =
     let e : i + suc (length a) ≡ suc i + length a = omega arith in
-    ap (λ (k : ℕ). sets (sets (set l i x) (suc i) a) k b) e ∙ sets-append (set l i x) (suc i) a b
+    ap (λ (k : ℕ). sets (sets (set l i x) (suc i) a) k b) e ∙ sets_append (set l i x) (suc i) a b
 
-pub put-none : {l : List ℕ} {i : ℕ} → Put l i [] l i
-put-none {l} {i} = record { stored = refl; past = sym (add-zero i) }
+pub put_none_lem : {l : List ℕ} {i : ℕ} → Put l i [] l i
+put_none_lem {l} {i} = record { stored = refl; past = sym (add-zero i) }
 
 pub put_then : {l m n : List ℕ} {i j k : ℕ} {a b : List ℕ} → Put l i a m j → Put m j b n k → Put l i (a ++ b) n k
 put_then {l} {m} {n} {i} {j} {k} {a} {b} p q =
     record {
-      stored = q.stored ∙ (ap (λ (x : List ℕ). sets x j b) p.stored ∙ (ap (λ (x : ℕ). sets (sets l i a) x b) p.past ∙ sets-append l i a b));
+      stored = q.stored ∙ (ap (λ (x : List ℕ). sets x j b) p.stored ∙ (ap (λ (x : ℕ). sets (sets l i a) x b) p.past ∙ sets_append l i a b));
       past = let e = length-append a b in omega (arith, p.past, q.past, e);
     }
 
@@ -64,8 +64,8 @@ put_all bytes k {l} {at = at} all put = put.stored ∙ ap (sets l at) (take_all 
 pub poured-none : (l : List ℕ) (i : ℕ) → i ≤ length l → Poured l i [] l i
 poured-none l i h = record { stored = refl; past = omega (arith, add-zero i) }
 
-pub poured-full : (l : List ℕ) (i : ℕ) (bytes : List ℕ) → length l ≤ i → Poured l i bytes l (length l)
-poured-full l i bytes h = record { stored = sym (sets-past bytes l i h); past = omega arith }
+pub poured_full : (l : List ℕ) (i : ℕ) (bytes : List ℕ) → length l ≤ i → Poured l i bytes l (length l)
+poured_full l i bytes h = record { stored = sym (sets-past bytes l i h); past = omega arith }
 
 pub poured-length : {l m : List ℕ} {i j : ℕ} {a : List ℕ} → Poured l i a m j → length m ≡ length l
 poured-length {l} {i = i} {a = a} p = ap length p.stored ∙ length-sets l i a
@@ -83,7 +83,7 @@ poured-then {l} {m} {n} {i} {j} {k} {a} {b} p q =
           (λ full.
           sets-past b m j (omega (arith, p.past, leb-false (i + length a) (length l) full))
           ∙ sym (sets-past b m (i + length a) (omega (arith, leb-false (i + length a) (length l) full))))
-          ∙ (ap (λ (x : List ℕ). sets x (i + length a) b) p.stored ∙ sets-append l i a b));
+          ∙ (ap (λ (x : List ℕ). sets x (i + length a) b) p.stored ∙ sets_append l i a b));
       past = let e = length-append a b in omega (arith, p.past, q.past, e, long);
     }
 
@@ -96,12 +96,12 @@ pub poured-counts : {l m : List ℕ} {i j : ℕ} {a : List ℕ} → Poured l i a
 poured-counts {l} {m} {i} {j} p = sym (length-take-le j m (omega (arith, p.past, poured-length p)))
 
 -- the same bytes under another name
-pub poured-as : {l m : List ℕ} {i j : ℕ} {a b : List ℕ} → a ≡ b → Poured l i b m j → Poured l i a m j
-poured-as {l} {m} {i} {j} e p = subst (λ (bytes : List ℕ). Poured l i bytes m j) (sym e) p
+pub poured_as : {l m : List ℕ} {i j : ℕ} {a b : List ℕ} → a ≡ b → Poured l i b m j → Poured l i a m j
+poured_as {l} {m} {i} {j} e p = subst (λ (bytes : List ℕ). Poured l i bytes m j) (sym e) p
 
 -- one thing's bytes after those of the i things before it
 pub poured-each : (of : ℕ → List ℕ) (i : ℕ) {l m n : List ℕ} {at j k : ℕ} → Poured l at (each of 0 i) m j → Poured m j (of i) n k → Poured l at (each of 0 (i + 1)) n k
-poured-each of i a b = poured-as (each_next of i) (poured-then a b)
+poured-each of i a b = poured_as (each_next of i) (poured-then a b)
 
 -- where there is room for all of them, all are put
 pub poured-put : {l m : List ℕ} {i j : ℕ} {a : List ℕ} → i + length a ≤ length l → Poured l i a m j → Put l i a m j

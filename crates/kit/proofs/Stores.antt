@@ -38,13 +38,13 @@ module _ {A : Type 0} (other : A) where
   sets-out (a ∷ stored) l at i (inl h) = sets-out stored (set l at a) (suc at) i (inl (omega arith)) ∙ get_or-set_other l at i a other (omega arith)
   sets-out (a ∷ stored) l at i (inr h) = sets-out stored (set l at a) (suc at) i (inr (omega arith)) ∙ get_or-set_other l at i a other (omega arith)
 
-  pub sets-in : (stored l : List A) (at j : ℕ) → j < length stored → at + length stored ≤ length l → get_or (sets l at stored) (at + j) other ≡ get_or stored j other
-  sets-in [] l at j h room = absurd (omega arith)
-  sets-in (a ∷ stored) l at zero h room =
+  pub sets_in : (stored l : List A) (at j : ℕ) → j < length stored → at + length stored ≤ length l → get_or (sets l at stored) (at + j) other ≡ get_or stored j other
+  sets_in [] l at j h room = absurd (omega arith)
+  sets_in (a ∷ stored) l at zero h room =
       rw add-zero (sets-out stored (set l at a) (suc at) at (inl (omega arith)) ∙ get_or-set_same l at a other (omega arith))
-  sets-in (a ∷ stored) l at (suc j) h room =
+  sets_in (a ∷ stored) l at (suc j) h room =
       subst (λ t. get_or (sets l at (a ∷ stored)) t other ≡ get_or stored j other) (omega arith)
-      (sets-in stored (set l at a) (suc at) j (omega arith) (omega (arith, length-set l at a)))
+      (sets_in stored (set l at a) (suc at) j (omega arith) (omega (arith, length-set l at a)))
 
   -- what holds of each element, and of each that is stored, holds of each afterwards
   set-each : (P : A → Type 0) (l : List A) (at : ℕ) (a : A) → P a → ((i : ℕ) → P (get_or l i other)) → (i : ℕ) → P (get_or (set l at a) i other)

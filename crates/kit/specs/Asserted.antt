@@ -7,9 +7,9 @@
 -- what follows from the contract in every model, whatever the model is.
 --
 -- One spelt out: `signals_in_place::update(held, present, telegram)`, which is lent a record of signals. Its contract says that the answer
--- and the record afterwards are those that `updateOf` gives for the record before, `present` and the telegram's bytes. So
+-- and the record afterwards are those that `update_of` gives for the record before, `present` and the telegram's bytes. So
 -- `OfUpdateLent Such` of claims/specs/Functions.antt says: for every record before, with or without a telegram, for all its bytes, and for
--- every answer and every record afterwards that are those of `updateOf`, `Such before present telegram answer after`. `handed` is the
+-- every answer and every record afterwards that are those of `update_of`, `Such before present telegram answer after`. `handed` is the
 -- record before, `present` and the telegram, `lasts` the record afterwards, and `ghost` what a contract may carry for proofs alone: here
 -- nothing. claims/proofs/Functions.antt `update-lent-says` proves that this plain sentence is enough for the promise.
 use Rattle.std.specs.Prelude.{◌≡◌}

@@ -8,15 +8,15 @@ abbrev pub Bytes : List ℕ → Type 0
 Bytes l = (i : ℕ) → get_or l i 0 < 256
 
 -- the word of two bytes
-abbrev pub wordOfTwo : ℕ → ℕ → ℕ
-wordOfTwo high low = high * 256 + low
+abbrev pub word_of_two : ℕ → ℕ → ℕ
+word_of_two high low = high * 256 + low
 
 -- the word at index i of a list of bytes, and the number of four bytes there
 abbrev pub word_at : List ℕ → ℕ → ℕ
-word_at l i = wordOfTwo (get_or l i 0) (get_or l (i + 1) 0)
+word_at l i = word_of_two (get_or l i 0) (get_or l (i + 1) 0)
 
-abbrev pub longAt : List ℕ → ℕ → ℕ
-longAt l i = word_at l i * 0x10000 + word_at l (i + 2)
+abbrev pub long_at : List ℕ → ℕ → ℕ
+long_at l i = word_at l i * 0x10000 + word_at l (i + 2)
 
 -- bit i of a number, bit 0 the lowest
 abbrev pub bit : ℕ → ℕ → Bool

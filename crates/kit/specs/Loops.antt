@@ -17,8 +17,8 @@ abbrev pub any : (ℕ → Bool) → ℕ → ℕ → Bool
 any test k n = scan test (λ i. true) false k n
 
 -- the first of number k, number (k + 1), and so on, n of them, that is not 0, or 0
-abbrev pub firstNonzero : (ℕ → ℕ) → ℕ → ℕ → ℕ
-firstNonzero number k n = scan (λ i. not (eqb (number i) 0)) number 0 k n
+abbrev pub first_nonzero : (ℕ → ℕ) → ℕ → ℕ → ℕ
+first_nonzero number k n = scan (λ i. not (eqb (number i) 0)) number 0 k n
 
 -- the first of 0 to n - 1 at which the test holds, or n where it holds at none
 abbrev pub find : (ℕ → Bool) → ℕ → ℕ
@@ -29,5 +29,5 @@ abbrev pub found : (ℕ → Bool) → ℕ → Bool
 found test n = ltb (find test n) n
 
 -- how many of 0 to n - 1 pass the test
-unfoldable pub howMany : (ℕ → Bool) → ℕ → ℕ
-howMany test n = fold (λ i so_far. cond (test i) (so_far + 1) so_far) 0 n
+unfoldable pub how_many : (ℕ → Bool) → ℕ → ℕ
+how_many test n = fold (λ i so_far. cond (test i) (so_far + 1) so_far) 0 n

@@ -1,9 +1,9 @@
 // The step last taken: whether a telegram is of that step, and the gap from it to another.
 ghost use Rattle.std.specs.Prelude.{◌≡◌};
 ghost use Rattle.std.proofs.lemmas.List.Edits.{sets};
-ghost use Rattle.memory.specs.Memory.{lastFrom};
-ghost use Rattle.last_step.specs.LastSteps.{isLast, gapFrom};
-ghost use Rattle.last_step.specs.Lent.{lastIn, lastBytes, with_last};
+ghost use Rattle.memory.specs.Memory.{last_from};
+ghost use Rattle.last_step.specs.LastSteps.{is_last, gap_from};
+ghost use Rattle.last_step.specs.Lent.{last_in, last_bytes, with_last};
 
 // Where it stands in the lent memory of a listener.
 const LAST: usize = 160;
@@ -17,7 +17,7 @@ pub enum Last {
 
 // Whether a step number is that of the step last taken.
 pub fn is_last(last: Last, step: u16) -> bool
-    ensures { result ≡ isLast last step }
+    ensures { result ≡ is_last last step }
 {
     match last {
         Last::Never => false,
@@ -27,7 +27,7 @@ pub fn is_last(last: Last, step: u16) -> bool
 
 // The gap from the step last taken, 0 where there is none.
 pub fn gap_from(last: Last, step: u16) -> u16
-    ensures { result ≡ gapFrom last step }
+    ensures { result ≡ gap_from last step }
 {
     match last {
         Last::Never => 0,
@@ -37,7 +37,7 @@ pub fn gap_from(last: Last, step: u16) -> u16
 
 // The step last taken, in the lent memory of a listener.
 pub fn last_in(memory: &[u8; 310]) -> Last
-    ensures { result ≡ lastIn memory.now }
+    ensures { result ≡ last_in memory.now }
 {
     if memory[LAST] == 0 {
         return Last::Never;
@@ -56,7 +56,7 @@ pub fn take_step(memory: &mut [u8; 310], step: u16)
 
 // The step last taken, or none, put into the memory.
 pub fn put_last(memory: &mut [u8; 310], last: Last)
-    ensures { memory.new ≡ sets memory.old lastFrom (lastBytes last) }
+    ensures { memory.new ≡ sets memory.old last_from (last_bytes last) }
 {
     match last {
         Last::Never => {

@@ -1,8 +1,8 @@
 // Orders that are absent from a list leave: their slots are free in the same step, and their numbers begin to rest. The list is
 // looked at as far as its first n orders; a desk hands in how many it has.
 ghost use Rattle.std.specs.Prelude.{map, ◌≡◌, ◌<◌};
-ghost use Rattle.order_list.specs.Lists.{listed_at, numbersOf};
-ghost use Rattle.leaving.specs.Leaving.{keptAmong, endedEntry, endedAmong, remainsOf};
+ghost use Rattle.order_list.specs.Lists.{listed_at, numbers_of};
+ghost use Rattle.leaving.specs.Leaving.{kept_among, ended_entry, ended_among, remains_of};
 
 use condition::{SLOTS, Slot};
 use places::Place;
@@ -10,7 +10,7 @@ use resting::{Ended, KEPT};
 
 // Which of the first n orders of a list has this order number, or n where none has, by the order numbers of its first twenty.
 fn listed(numbers: &[u32; 20], list: &[u8], n: u8, number: u32) -> u8
-    requires { numbers.now ≡ numbersOf list.now }
+    requires { numbers.now ≡ numbers_of list.now }
     ensures { result ≡ listed_at list.now n number }
 {
     let at = order_list::found_at(numbers, number);
@@ -32,8 +32,8 @@ struct Fate {
 
 // An order in the list keeps its slot and number and takes the new words. Any other leaves a free place, and its number has ended.
 fn fate_of(numbers: &[u32; 20], list: &[u8], n: u8, step: u16, place: Place) -> Fate
-    requires { numbers.now ≡ numbersOf list.now }
-    ensures { (result.place ≡ keptAmong list.now n place) × (result.ended ≡ endedEntry list.now n step place) }
+    requires { numbers.now ≡ numbers_of list.now }
+    ensures { (result.place ≡ kept_among list.now n place) × (result.ended ≡ ended_entry list.now n step place) }
 {
     let at = listed(numbers, list, n, place.order);
     if at < n {
@@ -74,7 +74,7 @@ pub struct Remains {
 // Who stays and who ends: the places of the orders that stay, and the ended numbers after the step, the twenty of this step and then those
 // that were there.
 pub fn leave(list: &[u8], n: u8, step: u16, places: [Place; 20], ended: [Ended; 160]) -> Remains
-    ensures { result ≡ remainsOf list.now n step places ended }
+    ensures { result ≡ remains_of list.now n step places ended }
 {
     let numbers = order_list::numbers_of(list);
     let mut kept = places;
@@ -100,7 +100,7 @@ pub fn leave(list: &[u8], n: u8, step: u16, places: [Place; 20], ended: [Ended; 
 
 // The places of the orders that stay.
 pub fn kept_places(list: &[u8], n: u8, places: [Place; 20]) -> [Place; 20]
-    ensures { result ≡ map (keptAmong list.now n) places }
+    ensures { result ≡ map (kept_among list.now n) places }
 {
     let none = Ended::none();
     let left = leave(list, n, 0, places, [none; 160]);
@@ -115,7 +115,7 @@ pub fn ended_numbers(
     places: [Place; 20],
     ended: [Ended; 160],
 ) -> [Ended; 160]
-    ensures { result ≡ endedAmong list.now n step places ended }
+    ensures { result ≡ ended_among list.now n step places ended }
 {
     let left = leave(list, n, step, places, ended);
     left.ended

@@ -2,14 +2,14 @@
 // gave, so that a recording may have any length and a table is shown when its last telegram has come.
 ghost use Rattle.std.specs.Prelude.{◌≡◌, ◌≤◌, cond, length};
 ghost use Rattle.kit.specs.Put.{Put, Poured};
-ghost use Rattle.outcomes.specs.Ends.{atTheEnd};
-ghost use Rattle.lister.specs.Pieces.{take_of, pieceLines, MadeByPieces};
-ghost use Rattle.listing_lines.specs.Lines.{headerLine};
+ghost use Rattle.outcomes.specs.Ends.{at_the_end};
+ghost use Rattle.lister.specs.Pieces.{take_of, piece_lines, MadeByPieces};
+ghost use Rattle.listing_lines.specs.Lines.{header_line};
 ghost use Rattle.listing.specs.Listings.{end_of};
-ghost use Rattle.summary.specs.Rooms.{summaryRoom, Countable};
-ghost use Rattle.summary.specs.Tallies.{countedPiece};
-ghost use Rattle.summary.specs.Summaries.{summaryOf};
-ghost use Rattle.listing_room.specs.Rooms.{pieceRoom, linesRoom, headerRoom, endRoom};
+ghost use Rattle.summary.specs.Rooms.{summary_room, Countable};
+ghost use Rattle.summary.specs.Tallies.{counted_piece};
+ghost use Rattle.summary.specs.Summaries.{summary_of};
+ghost use Rattle.listing_room.specs.Rooms.{piece_room, lines_room, header_room, end_room};
 
 use libc::{STDERR_FILENO, STDOUT_FILENO};
 use lister::{Listed, Lister};
@@ -86,7 +86,7 @@ fn list(summed: bool, source: Source, name: &[u8], begun: Progress) {
 // Counts what a piece brings, where that is asked for.
 fn count_piece(wanted: bool, tally: Tally, lister: Lister, piece: &[u8]) -> Tally
     requires { MadeByPieces lister }
-    ensures { result ≡ cond wanted (countedPiece tally lister piece.now) tally }
+    ensures { result ≡ cond wanted (counted_piece tally lister piece.now) tally }
 {
     if wanted {
         return tally.take(lister, piece);
@@ -96,8 +96,8 @@ fn count_piece(wanted: bool, tally: Tally, lister: Lister, piece: &[u8]) -> Tall
 
 // Puts the header, all of it: the buffer has the size for which that is proved (listing_room/specs/Rooms.antt).
 fn put_header(out: &mut [u8]) -> usize
-    requires { length out.old ≡ headerRoom }
-    ensures { Put out.old 0 headerLine out.new result }
+    requires { length out.old ≡ header_room }
+    ensures { Put out.old 0 header_line out.new result }
 {
     listing_lines::put_header(out, 0)
 }
@@ -111,15 +111,15 @@ fn show_header() -> bool {
 
 // Puts the lines of one piece. It asks for the sizes for which it is proved that all of them have room (listing_room/proofs/Room.antt).
 fn put_piece(lister: Lister, piece: &[u8], out: &mut [u8]) -> Listed
-    requires { MadeByPieces lister × (length piece.now ≤ pieceRoom) × (length out.old ≡ linesRoom) }
-    ensures { (result.lister ≡ take_of lister piece.now) × Poured out.old 0 (pieceLines lister piece.now) out.new result.at }
+    requires { MadeByPieces lister × (length piece.now ≤ piece_room) × (length out.old ≡ lines_room) }
+    ensures { (result.lister ≡ take_of lister piece.now) × Poured out.old 0 (piece_lines lister piece.now) out.new result.at }
 {
     lister.take(piece, out, 0)
 }
 
 // Writes the lines of one piece.
 fn show_piece(lister: Lister, piece: &[u8], out: &mut [u8]) -> Shown
-    requires { MadeByPieces lister × (length piece.now ≤ pieceRoom) × (length out.old ≡ linesRoom) }
+    requires { MadeByPieces lister × (length piece.now ≤ piece_room) × (length out.old ≡ lines_room) }
     ensures { result.lister ≡ take_of lister piece.now }
 {
     let listed = put_piece(lister, piece, out);
@@ -135,8 +135,8 @@ fn show_piece(lister: Lister, piece: &[u8], out: &mut [u8]) -> Shown
 // Puts what stands at the end: where the input has ended, the line of a short tail and the last line, all of both, since the buffer has the
 // size for which that is proved; after a read that failed, nothing.
 fn put_end(state: State, lister: Lister, out: &mut [u8]) -> usize
-    requires { MadeByPieces lister × (length out.old ≡ endRoom) }
-    ensures { Put out.old 0 (atTheEnd state (end_of lister)) out.new result }
+    requires { MadeByPieces lister × (length out.old ≡ end_room) }
+    ensures { Put out.old 0 (at_the_end state (end_of lister)) out.new result }
 {
     if outcomes::is_ended(state) {
         return listing::finish(lister, out, 0);
@@ -156,8 +156,8 @@ fn show_end(state: State, lister: Lister) -> bool
 // Puts the summary where the input has ended, all of it, since the buffer has the size for which that is proved; after a read that failed,
 // nothing.
 fn put_summary(state: State, tally: Tally, lister: Lister, out: &mut [u8]) -> usize
-    requires { MadeByPieces lister × Countable tally × (length out.old ≡ summaryRoom) }
-    ensures { Put out.old 0 (atTheEnd state (summaryOf tally lister)) out.new result }
+    requires { MadeByPieces lister × Countable tally × (length out.old ≡ summary_room) }
+    ensures { Put out.old 0 (at_the_end state (summary_of tally lister)) out.new result }
 {
     let ended = outcomes::is_ended(state);
     if ended {

@@ -3,11 +3,11 @@ use Prim.Native.Nat.{ℕ}
 use mathlib.Core.Path.{refl}
 use mathlib.Core.List.{List}
 use Rattle.condition.specs.Slots.{MayHold}
-use Rattle.telegram.specs.Tables.{tableSlot}
-use Rattle.telegram.proofs.Valid.{never-invalid}
-use Rattle.listener.specs.Listeners.{heardAll}
-use Rattle.listener.proofs.Every.{all-every}
+use Rattle.telegram.specs.Tables.{table_slot}
+use Rattle.telegram.proofs.Valid.{never_invalid}
+use Rattle.listener.specs.Listeners.{heard_all}
+use Rattle.listener.proofs.Every.{all_every}
 
 -- M-2e: whatever was heard
-pub picture-valid : (reach : ℕ) (telegrams : List (List ℕ)) (i : ℕ) → MayHold (tableSlot (heardAll reach telegrams).picture i)
-picture-valid reach telegrams = (all-every MayHold refl reach never-invalid telegrams).picture
+pub picture-valid : (reach : ℕ) (telegrams : List (List ℕ)) (i : ℕ) → MayHold (table_slot (heard_all reach telegrams).picture i)
+picture-valid reach telegrams = (all_every MayHold refl reach never_invalid telegrams).picture

@@ -1,5 +1,5 @@
 -- What a listener answers, in the numbers and values of document 01: "Matching forms to places", last paragraph. Every definition and
--- promise on hearing speaks of an answer through `toldOf` (C-12); proofs/Answers.antt proves that it tells every two answers apart.
+-- promise on hearing speaks of an answer through `told_of` (C-12); proofs/Answers.antt proves that it tells every two answers apart.
 use Rattle.std.specs.Prelude.{ℕ}
 use Rattle.listener.specs.declared.Answer.{Answer}
 use Rattle.listener.specs.declared.Answer.TheVariants.{Refused, Repeat, Held, Taken}
@@ -8,10 +8,10 @@ use Rattle.listener.specs.declared.Listener.{Listener}
 
 -- C-12: which of the four an answer is: a refusal, a repeat, a part held for a set that is not yet whole, or a table taken
 pub data Outcome : Type 0 where
-  aRefusal : Outcome
-  aRepeat : Outcome
-  aPart : Outcome
-  aTable : Outcome
+  a_refusal : Outcome
+  a_repeat : Outcome
+  a_part : Outcome
+  a_table : Outcome
 
 -- C-12: an answer in the numbers and values of document 01: the number of a refusal, 0 where nothing is refused; the step number, how many
 -- conditions and the gap of a table taken, 0 where none is
@@ -23,32 +23,32 @@ pub record Told : Type 0 where
   pub gap : ℕ
 
 -- R-20: refused under this number
-abbrev pub refusedAs : ℕ → Told
-refusedAs number = record { outcome = aRefusal; number = number; step = 0; conditions = 0; gap = 0 }
+abbrev pub refused_as : ℕ → Told
+refused_as number = record { outcome = a_refusal; number = number; step = 0; conditions = 0; gap = 0 }
 
 -- L-01, L-02: a repeat
-abbrev pub asRepeat : Told
-asRepeat = record { outcome = aRepeat; number = 0; step = 0; conditions = 0; gap = 0 }
+abbrev pub as_repeat : Told
+as_repeat = record { outcome = a_repeat; number = 0; step = 0; conditions = 0; gap = 0 }
 
 -- L-03: held
-abbrev pub asHeld : Told
-asHeld = record { outcome = aPart; number = 0; step = 0; conditions = 0; gap = 0 }
+abbrev pub as_held : Told
+as_held = record { outcome = a_part; number = 0; step = 0; conditions = 0; gap = 0 }
 
 -- L-04, L-05, C-09: the table of this step taken, with so many conditions, over this gap
-abbrev pub takenAs : ℕ → ℕ → ℕ → Told
-takenAs step conditions gap = record { outcome = aTable; number = 0; step = step; conditions = conditions; gap = gap }
+abbrev pub taken_as : ℕ → ℕ → ℕ → Told
+taken_as step conditions gap = record { outcome = a_table; number = 0; step = step; conditions = conditions; gap = gap }
 
 -- C-12: what an answer tells
-abbrev pub toldOf : Answer → Told
-toldOf (Refused number) = refusedAs number
-toldOf Repeat = asRepeat
-toldOf Held = asHeld
-toldOf (Taken step count gap) = takenAs step count gap
+abbrev pub told_of : Answer → Told
+told_of (Refused number) = refused_as number
+told_of Repeat = as_repeat
+told_of Held = as_held
+told_of (Taken step count gap) = taken_as step count gap
 
 -- C-12: what is told, and the next listener beside it
 pub record Hearing : Type 0 where
   pub told : Told
   pub listener : Listener
 
-abbrev pub hearingOf : Heard → Hearing
-hearingOf heard = record { told = toldOf heard.answer; listener = heard.listener }
+abbrev pub hearing_of : Heard → Hearing
+hearing_of heard = record { told = told_of heard.answer; listener = heard.listener }

@@ -1,69 +1,69 @@
 -- A listener in lent memory: which listener the bytes mean, the bytes of a listener, and which bytes stand there after a hearing. The rules
 -- of hearing are those of Listeners.antt; memory/specs/Memory.antt says where things stand.
 use Rattle.std.specs.Prelude.{ℕ, ◌≡◌, Bool, cond, List, ◌++◌, map, eqb}
-use Rattle.telegram.specs.Telegrams.{stepIn, read_of}
-use Rattle.memory.specs.Memory.{flagByte, tableBytes, pictureIn, marksIn, setIn, withMarks, withPicture}
+use Rattle.telegram.specs.Telegrams.{step_in, read_of}
+use Rattle.memory.specs.Memory.{flag_byte, table_bytes, picture_in, marks_in, set_in, with_marks, with_picture}
 use Rattle.picture.specs.Pictures.{count_of, clashes}
-use Rattle.marks.specs.Marks.{marksOf}
-use Rattle.hand.specs.Lent.{handIn, handBytes, begunIn, joinedIn}
+use Rattle.marks.specs.Marks.{marks_of}
+use Rattle.hand.specs.Lent.{hand_in, hand_bytes, begun_in, joined_in}
 use Rattle.hand.specs.Sets.{is_whole}
-use Rattle.last_step.specs.LastSteps.{gapFrom}
-use Rattle.last_step.specs.Lent.{lastIn, lastBytes, with_last}
-use Rattle.listener.specs.Answers.{Outcome, aRefusal, aRepeat, aPart, aTable, Told, Hearing, refusedAs, asHeld, takenAs, toldOf}
-use Rattle.listener.specs.Listeners.{hearOf}
+use Rattle.last_step.specs.LastSteps.{gap_from}
+use Rattle.last_step.specs.Lent.{last_in, last_bytes, with_last}
+use Rattle.listener.specs.Answers.{Outcome, a_refusal, a_repeat, a_part, a_table, Told, Hearing, refused_as, as_held, taken_as, told_of}
+use Rattle.listener.specs.Listeners.{hear_of}
 use Rattle.listener.specs.declared.Answer.{Answer}
 use Rattle.listener.specs.declared.Listener.{Listener}
 
 -- ---- what the memory means
 
 -- the listener
-unfoldable pub listenerIn : List ℕ → Listener
-listenerIn memory = record { picture = pictureIn memory; marks = marksIn memory; last = lastIn memory; hand = handIn memory }
+unfoldable pub listener_in : List ℕ → Listener
+listener_in memory = record { picture = picture_in memory; marks = marks_in memory; last = last_in memory; hand = hand_in memory }
 
 -- its bytes
-unfoldable pub listenerBytes : Listener → List ℕ
-listenerBytes listener =
-    tableBytes listener.picture
-    ++ (map flagByte listener.marks ++ (lastBytes listener.last ++ handBytes listener.hand))
+unfoldable pub listener_bytes : Listener → List ℕ
+listener_bytes listener =
+    table_bytes listener.picture
+    ++ (map flag_byte listener.marks ++ (last_bytes listener.last ++ hand_bytes listener.hand))
 
 -- ---- which bytes stand there
 
 -- the memory that a telegram of this step number goes into: as it is if its set has that number, else with a set that begins
-unfoldable pub memoryFor : List ℕ → ℕ → List ℕ
-memoryFor memory step = cond (eqb (handIn memory).step step) memory (begunIn memory step)
+unfoldable pub memory_for : List ℕ → ℕ → List ℕ
+memory_for memory step = cond (eqb (hand_in memory).step step) memory (begun_in memory step)
 
 -- that memory with the telegram in it
-abbrev pub withIt : List ℕ → List ℕ → List ℕ
-withIt memory telegram = joinedIn (memoryFor memory (stepIn telegram)) telegram
+abbrev pub taken_with : List ℕ → List ℕ → List ℕ
+taken_with memory telegram = joined_in (memory_for memory (step_in telegram)) telegram
 
 -- the memory when its set, of this step number, has become the picture with these marks
-unfoldable pub shiftedIn : List ℕ → ℕ → List Bool → List ℕ
-shiftedIn memory step marks = begunIn (with_last (withPicture (withMarks memory marks)) step) 0
+unfoldable pub shifted_in : List ℕ → ℕ → List Bool → List ℕ
+shifted_in memory step marks = begun_in (with_last (with_picture (with_marks memory marks)) step) 0
 
 -- the same with the step number and the marks that are the set's own
-unfoldable pub takenIn : ℕ → List ℕ → List ℕ
-takenIn reach memory =
-    shiftedIn memory (handIn memory).step (marksOf reach (gapFrom (lastIn memory) (handIn memory).step) (pictureIn memory) (setIn memory))
+unfoldable pub taken_in : ℕ → List ℕ → List ℕ
+taken_in reach memory =
+    shifted_in memory (hand_in memory).step (marks_of reach (gap_from (last_in memory) (hand_in memory).step) (picture_in memory) (set_in memory))
 
 -- the memory after an answer of this outcome and number. Refusal 15 alone drops the set.
-abbrev pub memoryBy : Outcome → ℕ → ℕ → List ℕ → List ℕ → List ℕ
-memoryBy aRefusal number reach memory telegram = cond (eqb number 15) (begunIn (withIt memory telegram) 0) memory
-memoryBy aRepeat number reach memory telegram = memory
-memoryBy aPart number reach memory telegram = withIt memory telegram
-memoryBy aTable number reach memory telegram = takenIn reach (withIt memory telegram)
+abbrev pub memory_by : Outcome → ℕ → ℕ → List ℕ → List ℕ → List ℕ
+memory_by a_refusal number reach memory telegram = cond (eqb number 15) (begun_in (taken_with memory telegram) 0) memory
+memory_by a_repeat number reach memory telegram = memory
+memory_by a_part number reach memory telegram = taken_with memory telegram
+memory_by a_table number reach memory telegram = taken_in reach (taken_with memory telegram)
 
 -- the memory after what an answer tells
-abbrev pub memoryAfter : ℕ → Told → List ℕ → List ℕ → List ℕ
-memoryAfter reach told memory telegram = memoryBy told.outcome told.number reach memory telegram
+abbrev pub memory_after : ℕ → Told → List ℕ → List ℕ → List ℕ
+memory_after reach told memory telegram = memory_by told.outcome told.number reach memory telegram
 
 -- What a hearing leaves: what is told and the listener that the memory then means are those of `heard`, and every byte is determined.
 pub record LeftBy (reach : ℕ) (heard : Hearing) (memory telegram : List ℕ) (told : Told) (after : List ℕ) : Type 0 where
-  pub meant : ◌≡◌ {A = Hearing} (record { told = told; listener = listenerIn after }) heard
-  pub bytes : after ≡ memoryAfter reach told memory telegram
+  pub meant : ◌≡◌ {A = Hearing} (record { told = told; listener = listener_in after }) heard
+  pub bytes : after ≡ memory_after reach told memory telegram
 
 -- M-1b: hearing takes the listener that the memory means to the next one
 abbrev pub HeardIn : ℕ → List ℕ → List ℕ → Answer → List ℕ → Type 0
-HeardIn reach memory telegram answer after = LeftBy reach (hearOf reach (listenerIn memory) (read_of telegram)) memory telegram (toldOf answer) after
+HeardIn reach memory telegram answer after = LeftBy reach (hear_of reach (listener_in memory) (read_of telegram)) memory telegram (told_of answer) after
 
 -- ---- the parts of a hearing, on the memory
 
@@ -73,20 +73,20 @@ pub record Left : Type 0 where
   pub memory : List ℕ
 
 -- a whole set is taken
-unfoldable pub takenLeft : ℕ → List ℕ → Left
-takenLeft reach memory =
+unfoldable pub taken_left : ℕ → List ℕ → Left
+taken_left reach memory =
     record {
-      told = takenAs (handIn memory).step (count_of (setIn memory)) (gapFrom (lastIn memory) (handIn memory).step);
-      memory = takenIn reach memory;
+      told = taken_as (hand_in memory).step (count_of (set_in memory)) (gap_from (last_in memory) (hand_in memory).step);
+      memory = taken_in reach memory;
     }
 
 -- a whole set is refused, or taken
-unfoldable pub judgedLeft : ℕ → List ℕ → Left
-judgedLeft reach memory = cond (clashes (setIn memory)) (record { told = refusedAs 15; memory = begunIn memory 0 }) (takenLeft reach memory)
+unfoldable pub judged_left : ℕ → List ℕ → Left
+judged_left reach memory = cond (clashes (set_in memory)) (record { told = refused_as 15; memory = begun_in memory 0 }) (taken_left reach memory)
 
 -- a telegram goes into the set, which is judged once it is whole
-unfoldable pub addedLeft : ℕ → List ℕ → List ℕ → Left
-addedLeft reach memory telegram =
-    cond (is_whole (handIn (joinedIn memory telegram)))
-    (judgedLeft reach (joinedIn memory telegram))
-    (record { told = asHeld; memory = joinedIn memory telegram })
+unfoldable pub added_left : ℕ → List ℕ → List ℕ → Left
+added_left reach memory telegram =
+    cond (is_whole (hand_in (joined_in memory telegram)))
+    (judged_left reach (joined_in memory telegram))
+    (record { told = as_held; memory = joined_in memory telegram })

@@ -3,12 +3,12 @@
 //
 // It works in memory that is lent (`hear_in`), so that no table is handed over for a telegram. `Listener::hear` is the same by value.
 ghost use Rattle.std.specs.Prelude.{◌≤◌, ◌≡◌};
-ghost use Rattle.telegram.specs.Telegrams.{packetIn, stepIn, telegramOf, readRefusal, read_of};
-ghost use Rattle.hand.specs.Lent.{handIn};
-ghost use Rattle.hand.specs.Sets.{setFor, is_held};
-ghost use Rattle.listener.specs.Answers.{toldOf, hearingOf};
-ghost use Rattle.listener.specs.Listeners.{carries, freshListener, heardOf, hearOf};
-ghost use Rattle.listener.specs.Lent.{listenerIn, listenerBytes, memoryFor, shiftedIn, LeftBy, HeardIn, takenLeft, judgedLeft, addedLeft};
+ghost use Rattle.telegram.specs.Telegrams.{packet_in, step_in, telegram_of, read_refusal, read_of};
+ghost use Rattle.hand.specs.Lent.{hand_in};
+ghost use Rattle.hand.specs.Sets.{set_for, is_held};
+ghost use Rattle.listener.specs.Answers.{told_of, hearing_of};
+ghost use Rattle.listener.specs.Listeners.{carries, fresh_listener, heard_of, hear_of};
+ghost use Rattle.listener.specs.Lent.{listener_in, listener_bytes, memory_for, shifted_in, LeftBy, HeardIn, taken_left, judged_left, added_left};
 
 use condition::Slot;
 use hand::Hand;
@@ -46,7 +46,7 @@ impl Listener {
 
     // A listener that has heard nothing.
     pub fn fresh() -> Self
-        ensures { result ≡ freshListener }
+        ensures { result ≡ fresh_listener }
     {
         let none = Slot::empty();
         Listener {
@@ -63,7 +63,7 @@ impl Listener {
 
     // Hears a telegram of any bytes and any length.
     pub fn hear(self, telegram: &[u8]) -> Heard
-        ensures { hearingOf result ≡ hearOf carries self (read_of telegram.now) }
+        ensures { hearing_of result ≡ hear_of carries self (read_of telegram.now) }
     {
         let mut memory = memory_of(self);
         let answer = hear_in(&mut memory, telegram);
@@ -74,7 +74,7 @@ impl Listener {
 
 // The memory of a listener.
 pub fn memory_of(listener: Listener) -> [u8; 310]
-    ensures { result ≡ listenerBytes listener }
+    ensures { result ≡ listener_bytes listener }
 {
     let mut memory = [0u8; 310];
     let picture = listener.picture;
@@ -90,7 +90,7 @@ pub fn memory_of(listener: Listener) -> [u8; 310]
 
 // The listener that a memory means.
 pub fn listener_in(memory: &[u8; 310]) -> Listener
-    ensures { result ≡ listenerIn memory.now }
+    ensures { result ≡ listener_in memory.now }
 {
     let picture = memory::picture_in(memory);
     let marks = memory::marks_in(memory);
@@ -106,21 +106,21 @@ pub fn listener_in(memory: &[u8; 310]) -> Listener
 
 // The step number of a telegram.
 fn step_in(telegram: &[u8]) -> u16
-    ensures { result ≡ stepIn telegram.now }
+    ensures { result ≡ step_in telegram.now }
 {
     wire::word_at(telegram, 0) % STEPS
 }
 
 // The packet number of a telegram.
 fn packet_in(telegram: &[u8]) -> u8
-    ensures { (result ≡ packetIn telegram.now) × (result ≤ 7) }
+    ensures { (result ≡ packet_in telegram.now) × (result ≤ 7) }
 {
     (wire::word_at(telegram, 0) / STEPS) as u8
 }
 
 // The set becomes the picture, and no set is in hand.
 fn shift(memory: &mut [u8; 310], step: u16, marks: [bool; 20])
-    ensures { memory.new ≡ shiftedIn memory.old step marks }
+    ensures { memory.new ≡ shifted_in memory.old step marks }
 {
     memory::put_marks(memory, marks);
     memory::show(memory);
@@ -130,7 +130,7 @@ fn shift(memory: &mut [u8; 310], step: u16, marks: [bool; 20])
 
 // A whole set is taken.
 fn take(memory: &mut [u8; 310]) -> Answer
-    ensures { record { told = toldOf result; memory = memory.new } ≡ takenLeft carries memory.old }
+    ensures { record { told = told_of result; memory = memory.new } ≡ taken_left carries memory.old }
 {
     let step = hand::step_of(memory);
     let last = last_step::last_in(memory);
@@ -143,7 +143,7 @@ fn take(memory: &mut [u8; 310]) -> Answer
 
 // A whole set is refused, or taken.
 fn judge(memory: &mut [u8; 310]) -> Answer
-    ensures { record { told = toldOf result; memory = memory.new } ≡ judgedLeft carries memory.old }
+    ensures { record { told = told_of result; memory = memory.new } ≡ judged_left carries memory.old }
 {
     if picture::clashes(memory) {
         hand::begin(memory, 0);
@@ -154,7 +154,7 @@ fn judge(memory: &mut [u8; 310]) -> Answer
 
 // A telegram goes into the set, which is judged once it is whole.
 fn add(memory: &mut [u8; 310], telegram: &[u8]) -> Answer
-    ensures { record { told = toldOf result; memory = memory.new } ≡ addedLeft carries memory.old telegram.now }
+    ensures { record { told = told_of result; memory = memory.new } ≡ added_left carries memory.old telegram.now }
 {
     hand::join(memory, telegram);
     if hand::is_whole(memory) {
@@ -165,7 +165,7 @@ fn add(memory: &mut [u8; 310], telegram: &[u8]) -> Answer
 
 // Whether a packet is held already for the set of this step. A set of another step is dropped, and one of this step begins.
 fn find_or_begin(memory: &mut [u8; 310], step: u16, packet: u8) -> bool
-    ensures { (result ≡ is_held (setFor (handIn memory.old) step) packet) × (memory.new ≡ memoryFor memory.old step) }
+    ensures { (result ≡ is_held (set_for (hand_in memory.old) step) packet) × (memory.new ≡ memory_for memory.old step) }
 {
     if hand::step_of(memory) != step {
         hand::begin(memory, step);
@@ -176,8 +176,8 @@ fn find_or_begin(memory: &mut [u8; 310], step: u16, packet: u8) -> bool
 
 // A telegram that the reader accepts.
 fn listen(memory: &mut [u8; 310], telegram: &[u8]) -> Answer
-    requires { readRefusal telegram.now ≡ 0 }
-    ensures { LeftBy carries (heardOf carries (listenerIn memory.old) (telegramOf telegram.now)) memory.old telegram.now (toldOf result) memory.new }
+    requires { read_refusal telegram.now ≡ 0 }
+    ensures { LeftBy carries (heard_of carries (listener_in memory.old) (telegram_of telegram.now)) memory.old telegram.now (told_of result) memory.new }
 {
     let whole: &[u8] = memory;
     let step = step_in(telegram);

@@ -8,9 +8,9 @@ use native.Mathlib.Omega.{arith}
 use Rattle.kit.specs.Put.{Poured}
 use Rattle.listener.specs.Answers.{Hearing}
 use Rattle.listener.specs.declared.Listener.{Listener}
-use Rattle.listing_tables.specs.Tables.{heardLines, tables_of}
-use Rattle.lister.specs.Hearings.{telegramsIn, tailOf, heardBy, listenerThrough, linesFor, tablesTaken}
-use Rattle.lister.specs.Pieces.{mostTables, padded, begunLister, afterKept, keeping, take_of, pieceLines, MadeByPieces, madeBegun, takenPiece}
+use Rattle.listing_tables.specs.Tables.{heard_lines, tables_of}
+use Rattle.lister.specs.Hearings.{telegrams_in, tail_of, heard_by, listener_through, lines_for, tables_taken}
+use Rattle.lister.specs.Pieces.{most_tables, padded, begun_lister, after_kept, keeping, take_of, piece_lines, MadeByPieces, made_begun, taken_piece}
 use Rattle.lister.specs.declared.Lister.{Lister}
 use Rattle.lister.proofs.Cutting.{telegrams-then, tail-then, tail-short, telegrams-none, tail_all, telegrams-one, tail_none}
 use Rattle.lister.proofs.Folds.{after_then, lines_then, tables_then}
@@ -20,25 +20,25 @@ pub record Kept (lister : Lister) (bytes : List ℕ) : Type 0 where
   pub short : length bytes < 26
   pub stored : lister.tail ≡ padded bytes
   pub counted : lister.kept ≡ length bytes
-  pub few : lister.tables ≤ mostTables
+  pub few : lister.tables ≤ most_tables
 
-pub begun_kept : Kept begunLister []
-unfolding begunLister
+pub begun_kept : Kept begun_lister []
+unfolding begun_lister
 begun_kept = record { short = omega arith; stored = refl; counted = refl; few = omega arith }
 
-pub take-kept : (lister : Lister) (piece : List ℕ) → Kept (take_of lister piece) (tailOf (afterKept lister piece))
+pub take-kept : (lister : Lister) (piece : List ℕ) → Kept (take_of lister piece) (tail_of (after_kept lister piece))
 unfolding take_of keeping
-take-kept lister piece = record { short = tail-short (afterKept lister piece); stored = refl; counted = refl; few = omega arith }
+take-kept lister piece = record { short = tail-short (after_kept lister piece); stored = refl; counted = refl; few = omega arith }
 
 pub made_kept : {lister : Lister} → MadeByPieces lister → (bytes : List ℕ) × Kept lister bytes
-made_kept madeBegun = ([], begun_kept)
-made_kept (takenPiece {lister} m piece) = (tailOf (afterKept lister piece), take-kept lister piece)
+made_kept made_begun = ([], begun_kept)
+made_kept (taken_piece {lister} m piece) = (tail_of (after_kept lister piece), take-kept lister piece)
 
 -- the bytes that are kept are those in front
 pub front : {lister : Lister} {bytes : List ℕ} → Kept lister bytes → take lister.kept lister.tail ≡ bytes
 front {lister} {bytes} k = ap (λ (l : List ℕ). take lister.kept l) k.stored ∙ take_at bytes (replicate (26 - length bytes) 0) lister.kept (sym k.counted)
 
-pub joined-kept : {lister : Lister} {bytes : List ℕ} → Kept lister bytes → (piece : List ℕ) → afterKept lister piece ≡ bytes ++ piece
+pub joined-kept : {lister : Lister} {bytes : List ℕ} → Kept lister bytes → (piece : List ℕ) → after_kept lister piece ≡ bytes ++ piece
 joined-kept k piece = ap (λ (l : List ℕ). l ++ piece) (front k)
 
 -- a state by its parts
@@ -50,61 +50,61 @@ keeping-then : (lister : Lister) (a b : List (List ℕ)) (between left : List �
 unfolding keeping
 keeping-then lister a b between left =
     let l = lister.listener in
-    let sum : min (lister.tables + tablesTaken l (a ++ b)) mostTables ≡ min (min (lister.tables + tablesTaken l a) mostTables + tablesTaken (listenerThrough l a) b) mostTables
+    let sum : min (lister.tables + tables_taken l (a ++ b)) most_tables ≡ min (min (lister.tables + tables_taken l a) most_tables + tables_taken (listener_through l a) b) most_tables
     = omega (arith, tables_then l a b) in
-    ap (λ (x : Listener). state x (min (lister.tables + tablesTaken l (a ++ b)) mostTables) (padded left) (length left)) (after_then l a b)
-    ∙ ap (λ (n : ℕ). state (listenerThrough (listenerThrough l a) b) n (padded left) (length left)) sum
+    ap (λ (x : Listener). state x (min (lister.tables + tables_taken l (a ++ b)) most_tables) (padded left) (length left)) (after_then l a b)
+    ∙ ap (λ (n : ℕ). state (listener_through (listener_through l a) b) n (padded left) (length left)) sum
 
 pub take-then : (lister : Lister) (p q : List ℕ) → take_of lister (p ++ q) ≡ take_of (take_of lister p) q
 unfolding take_of
 take-then lister p q =
-    let t = tailOf (afterKept lister p) in
-    let whole : afterKept lister (p ++ q) ≡ afterKept lister p ++ q = sym (append_assoc (take lister.kept lister.tail) p q) in
-    let next : afterKept (take_of lister p) q ≡ t ++ q = joined-kept (take-kept lister p) q in
-    ap (λ (x : List ℕ). keeping lister (telegramsIn x) (tailOf x)) whole
-    ∙ (ap (λ (x : List (List ℕ)). keeping lister x (tailOf (afterKept lister p ++ q))) (telegrams-then (afterKept lister p) q)
-    ∙ (ap (λ (x : List ℕ). keeping lister (telegramsIn (afterKept lister p) ++ telegramsIn (t ++ q)) x) (tail-then (afterKept lister p) q)
-    ∙ (keeping-then lister (telegramsIn (afterKept lister p)) (telegramsIn (t ++ q)) t (tailOf (t ++ q))
-    ∙ ap (λ (x : List ℕ). keeping (take_of lister p) (telegramsIn x) (tailOf x)) (sym next))))
+    let t = tail_of (after_kept lister p) in
+    let whole : after_kept lister (p ++ q) ≡ after_kept lister p ++ q = sym (append_assoc (take lister.kept lister.tail) p q) in
+    let next : after_kept (take_of lister p) q ≡ t ++ q = joined-kept (take-kept lister p) q in
+    ap (λ (x : List ℕ). keeping lister (telegrams_in x) (tail_of x)) whole
+    ∙ (ap (λ (x : List (List ℕ)). keeping lister x (tail_of (after_kept lister p ++ q))) (telegrams-then (after_kept lister p) q)
+    ∙ (ap (λ (x : List ℕ). keeping lister (telegrams_in (after_kept lister p) ++ telegrams_in (t ++ q)) x) (tail-then (after_kept lister p) q)
+    ∙ (keeping-then lister (telegrams_in (after_kept lister p)) (telegrams_in (t ++ q)) t (tail_of (t ++ q))
+    ∙ ap (λ (x : List ℕ). keeping (take_of lister p) (telegrams_in x) (tail_of x)) (sym next))))
 
-pub lines-of-then : (lister : Lister) (p q : List ℕ) → pieceLines lister (p ++ q) ≡ pieceLines lister p ++ pieceLines (take_of lister p) q
-unfolding pieceLines take_of keeping
+pub lines-of-then : (lister : Lister) (p q : List ℕ) → piece_lines lister (p ++ q) ≡ piece_lines lister p ++ piece_lines (take_of lister p) q
+unfolding piece_lines take_of keeping
 lines-of-then lister p q =
     let l = lister.listener in
-    let t = tailOf (afterKept lister p) in
-    let whole : afterKept lister (p ++ q) ≡ afterKept lister p ++ q = sym (append_assoc (take lister.kept lister.tail) p q) in
-    let next : afterKept (take_of lister p) q ≡ t ++ q = joined-kept (take-kept lister p) q in
-    ap (λ (x : List ℕ). linesFor l (telegramsIn x)) whole
-    ∙ (ap (linesFor l) (telegrams-then (afterKept lister p) q)
-    ∙ (lines_then l (telegramsIn (afterKept lister p)) (telegramsIn (t ++ q))
-    ∙ ap (λ (x : List ℕ). linesFor l (telegramsIn (afterKept lister p)) ++ linesFor (listenerThrough l (telegramsIn (afterKept lister p))) (telegramsIn x)) (sym next)))
+    let t = tail_of (after_kept lister p) in
+    let whole : after_kept lister (p ++ q) ≡ after_kept lister p ++ q = sym (append_assoc (take lister.kept lister.tail) p q) in
+    let next : after_kept (take_of lister p) q ≡ t ++ q = joined-kept (take-kept lister p) q in
+    ap (λ (x : List ℕ). lines_for l (telegrams_in x)) whole
+    ∙ (ap (lines_for l) (telegrams-then (after_kept lister p) q)
+    ∙ (lines_then l (telegrams_in (after_kept lister p)) (telegrams_in (t ++ q))
+    ∙ ap (λ (x : List ℕ). lines_for l (telegrams_in (after_kept lister p)) ++ lines_for (listener_through l (telegrams_in (after_kept lister p))) (telegrams_in x)) (sym next)))
 
 module _ {lister : Lister} {bytes : List ℕ} (k : Kept lister bytes) (piece : List ℕ) where
   -- what does not yet make a telegram is kept, and prints nothing
   pub take_part : length (bytes ++ piece) < 26 → take_of lister piece ≡ state lister.listener lister.tables (padded (bytes ++ piece)) (length (bytes ++ piece))
-  unfolding take_of keeping listenerThrough tablesTaken
+  unfolding take_of keeping listener_through tables_taken
   take_part p =
-      let same : min (lister.tables + 0) mostTables ≡ lister.tables = omega (arith, k.few) in
-      ap (λ (x : List ℕ). keeping lister (telegramsIn x) (tailOf x)) (joined-kept k piece)
-      ∙ (ap (λ (x : List (List ℕ)). keeping lister x (tailOf (bytes ++ piece))) (telegrams-none (bytes ++ piece) p)
+      let same : min (lister.tables + 0) most_tables ≡ lister.tables = omega (arith, k.few) in
+      ap (λ (x : List ℕ). keeping lister (telegrams_in x) (tail_of x)) (joined-kept k piece)
+      ∙ (ap (λ (x : List (List ℕ)). keeping lister x (tail_of (bytes ++ piece))) (telegrams-none (bytes ++ piece) p)
       ∙ (ap (λ (x : List ℕ). keeping lister [] x) (tail_all (bytes ++ piece) p)
       ∙ ap (λ (n : ℕ). state lister.listener n (padded (bytes ++ piece)) (length (bytes ++ piece))) same))
 
-  pub lines-part : length (bytes ++ piece) < 26 → pieceLines lister piece ≡ []
-  unfolding pieceLines linesFor
-  lines-part p = ap (λ (x : List ℕ). linesFor lister.listener (telegramsIn x)) (joined-kept k piece) ∙ ap (linesFor lister.listener) (telegrams-none (bytes ++ piece) p)
+  pub lines-part : length (bytes ++ piece) < 26 → piece_lines lister piece ≡ []
+  unfolding piece_lines lines_for
+  lines-part p = ap (λ (x : List ℕ). lines_for lister.listener (telegrams_in x)) (joined-kept k piece) ∙ ap (lines_for lister.listener) (telegrams-none (bytes ++ piece) p)
 
   -- what makes just one telegram is heard, and nothing is left
   pub take-one : length (bytes ++ piece) ≡ 26 → take_of lister piece ≡ keeping lister ((bytes ++ piece) ∷ []) []
   unfolding take_of
   take-one p =
-      ap (λ (x : List ℕ). keeping lister (telegramsIn x) (tailOf x)) (joined-kept k piece)
-      ∙ (ap (λ (x : List (List ℕ)). keeping lister x (tailOf (bytes ++ piece))) (telegrams-one (bytes ++ piece) p)
+      ap (λ (x : List ℕ). keeping lister (telegrams_in x) (tail_of x)) (joined-kept k piece)
+      ∙ (ap (λ (x : List (List ℕ)). keeping lister x (tail_of (bytes ++ piece))) (telegrams-one (bytes ++ piece) p)
       ∙ ap (λ (x : List ℕ). keeping lister ((bytes ++ piece) ∷ []) x) (tail_none (bytes ++ piece) p))
 
-  pub lines-one : length (bytes ++ piece) ≡ 26 → pieceLines lister piece ≡ linesFor lister.listener ((bytes ++ piece) ∷ [])
-  unfolding pieceLines
-  lines-one p = ap (λ (x : List ℕ). linesFor lister.listener (telegramsIn x)) (joined-kept k piece) ∙ ap (linesFor lister.listener) (telegrams-one (bytes ++ piece) p)
+  pub lines-one : length (bytes ++ piece) ≡ 26 → piece_lines lister piece ≡ lines_for lister.listener ((bytes ++ piece) ∷ [])
+  unfolding piece_lines
+  lines-one p = ap (λ (x : List ℕ). lines_for lister.listener (telegrams_in x)) (joined-kept k piece) ∙ ap (lines_for lister.listener) (telegrams-one (bytes ++ piece) p)
 
 -- nothing comes: nothing changes, and nothing is printed
 pub take_none : {lister : Lister} {bytes : List ℕ} → Kept lister bytes → take_of lister [] ≡ lister
@@ -116,7 +116,7 @@ take_none {lister} {bytes} k =
     ∙ (ap (λ (x : List ℕ). state lister.listener lister.tables x (length bytes)) (sym k.stored)
     ∙ ap (λ (n : ℕ). state lister.listener lister.tables lister.tail n) (sym k.counted)))
 
-pub lines_none : {lister : Lister} {bytes : List ℕ} → Kept lister bytes → pieceLines lister [] ≡ []
+pub lines_none : {lister : Lister} {bytes : List ℕ} → Kept lister bytes → piece_lines lister [] ≡ []
 lines_none {lister} {bytes} k = lines-part k [] (subst (λ (x : List ℕ). length x < 26) (sym (append-nil bytes)) k.short)
 
 -- ---- filling up the telegram in hand
@@ -162,15 +162,15 @@ module _ {lister : Lister} {bytes : List ℕ} (k : Kept lister bytes) {piece aft
       (filled ∙ (ap (λ (n : ℕ). (bytes ++ piece) ++ zeros n) none ∙ append-nil (bytes ++ piece)), all)
 
 -- one telegram heard
-pub heard-one : (lister : Lister) (telegram : List ℕ) {h : Hearing} {tables more : ℕ} → h ≡ heardBy lister.listener telegram → more ≡ tables_of h.told
-    → tables ≡ min (lister.tables + more) mostTables → state h.listener tables (padded []) 0 ≡ keeping lister (telegram ∷ []) []
-unfolding keeping listenerThrough tablesTaken
+pub heard-one : (lister : Lister) (telegram : List ℕ) {h : Hearing} {tables more : ℕ} → h ≡ heard_by lister.listener telegram → more ≡ tables_of h.told
+    → tables ≡ min (lister.tables + more) most_tables → state h.listener tables (padded []) 0 ≡ keeping lister (telegram ∷ []) []
+unfolding keeping listener_through tables_taken
 heard-one lister telegram {h} {tables} {more} same one sum =
     let l = lister.listener in
-    let told : more ≡ tables_of (heardBy l telegram).told = one ∙ ap (λ (x : Hearing). tables_of x.told) same in
-    let exact : tables ≡ min (lister.tables + (tables_of (heardBy l telegram).told + 0)) mostTables = omega (arith, sum, told) in
-    ap (λ (x : Hearing). state x.listener tables (padded []) 0) same ∙ ap (λ (n : ℕ). state (heardBy l telegram).listener n (padded []) 0) exact
+    let told : more ≡ tables_of (heard_by l telegram).told = one ∙ ap (λ (x : Hearing). tables_of x.told) same in
+    let exact : tables ≡ min (lister.tables + (tables_of (heard_by l telegram).told + 0)) most_tables = omega (arith, sum, told) in
+    ap (λ (x : Hearing). state x.listener tables (padded []) 0) same ∙ ap (λ (n : ℕ). state (heard_by l telegram).listener n (padded []) 0) exact
 
-pub lines-of-one : (listener : Listener) (telegram : List ℕ) → linesFor listener (telegram ∷ []) ≡ heardLines (heardBy listener telegram)
-unfolding linesFor
-lines-of-one listener telegram = append-nil (heardLines (heardBy listener telegram))
+pub lines-of-one : (listener : Listener) (telegram : List ℕ) → lines_for listener (telegram ∷ []) ≡ heard_lines (heard_by listener telegram)
+unfolding lines_for
+lines-of-one listener telegram = append-nil (heard_lines (heard_by listener telegram))

@@ -12,12 +12,12 @@ use native.Mathlib.Omega.{arith}
 use borrow.Author.Tests.{eqb-true, ltb-true, ltb-false}
 use Rattle.kit.specs.Put.{Poured}
 use Rattle.kit.proofs.Cases.{on}
-use Rattle.kit.proofs.Put.{poured-as, poured-then}
+use Rattle.kit.proofs.Put.{poured_as, poured-then}
 use Rattle.listener.specs.declared.Listener.{Listener}
-use Rattle.listing_tables.specs.Tables.{heardLines}
-use Rattle.lister.specs.Hearings.{heardBy, tailOf, linesFor}
+use Rattle.listing_tables.specs.Tables.{heard_lines}
+use Rattle.lister.specs.Hearings.{heard_by, tail_of, lines_for}
 use Rattle.lister.specs.Lent.{HeardNext}
-use Rattle.lister.specs.Pieces.{padded, keeping, take_of, pieceLines, MadeByPieces, takenPiece}
+use Rattle.lister.specs.Pieces.{padded, keeping, take_of, piece_lines, MadeByPieces, taken_piece}
 use Rattle.lister.specs.declared.Lister.{Lister}
 use Rattle.lister.proofs.Kept.{Kept, state, made_kept, joined-kept, take-then, lines-of-then, take-one, lines-one, heard-one, lines-of-one}
 
@@ -25,7 +25,7 @@ use Rattle.lister.proofs.Kept.{Kept, state, made_kept, joined-kept, take-then, l
 
 -- a part begins with a state that was made
 pub here : (start : Lister) (bytes : List ℕ) {lister : Lister} → MadeByPieces start → lister ≡ take_of start bytes → MadeByPieces lister
-here start bytes m same = subst⁻¹ MadeByPieces same (takenPiece m bytes)
+here start bytes m same = subst⁻¹ MadeByPieces same (taken_piece m bytes)
 
 pub lacks : {lister : Lister} → MadeByPieces lister → lister.kept < 26
 lacks m = let kept = (made_kept m).1 in omega (arith, kept.short, kept.counted)
@@ -41,15 +41,15 @@ module _ (start : Lister) (piece : List ℕ) {from to : ℕ} (forth : from ≤ t
       ∙ (sym (take-then start (take from piece) (take (to - from) (drop from piece))) ∙ ap (take_of start) (sym bytes-to)))
 
   pub lines-to : {lister : Lister} → lister ≡ take_of start (take from piece)
-      → pieceLines start (take to piece) ≡ pieceLines start (take from piece) ++ pieceLines lister (take (to - from) (drop from piece))
+      → piece_lines start (take to piece) ≡ piece_lines start (take from piece) ++ piece_lines lister (take (to - from) (drop from piece))
   lines-to same =
-      ap (pieceLines start) bytes-to
+      ap (piece_lines start) bytes-to
       ∙ (lines-of-then start (take from piece) (take (to - from) (drop from piece))
-      ∙ ap (λ (s : Lister). pieceLines start (take from piece) ++ pieceLines s (take (to - from) (drop from piece))) (sym same))
+      ∙ ap (λ (s : Lister). piece_lines start (take from piece) ++ piece_lines s (take (to - from) (drop from piece))) (sym same))
 
-  pub lines-again : {lister : Lister} {l m n : List ℕ} {at i j : ℕ} → lister ≡ take_of start (take from piece) → Poured l at (pieceLines start (take from piece)) m i
-      → Poured m i (pieceLines lister (take (to - from) (drop from piece))) n j → Poured l at (pieceLines start (take to piece)) n j
-  lines-again same a b = poured-as (lines-to same) (poured-then a b)
+  pub lines-again : {lister : Lister} {l m n : List ℕ} {at i j : ℕ} → lister ≡ take_of start (take from piece) → Poured l at (piece_lines start (take from piece)) m i
+      → Poured m i (piece_lines lister (take (to - from) (drop from piece))) n j → Poured l at (piece_lines start (take to piece)) n j
+  lines-again same a b = poured_as (lines-to same) (poured-then a b)
 
 -- a piece in two parts
 module _ (start : Lister) (piece : List ℕ) (cut : ℕ) where
@@ -65,11 +65,11 @@ module _ (start : Lister) (piece : List ℕ) (cut : ℕ) where
       ap (λ (n : ℕ). take n piece ++ second) e
       ∙ (sym (take-add cut (length piece - cut) piece) ∙ take_all (cut + (length piece - cut)) piece (omega arith))
 
-  pub two-parts : cut ≤ length piece → {between end : Lister} {l m n : List ℕ} {at i j : ℕ} → between ≡ take_of start first → Poured l at (pieceLines start first) m i
-      → end ≡ take_of between second → Poured m i (pieceLines between second) n j → (end ≡ take_of start piece) × Poured l at (pieceLines start piece) n j
-  two-parts p {between} a al b bl = (
+  pub two_parts : cut ≤ length piece → {between end : Lister} {l m n : List ℕ} {at i j : ℕ} → between ≡ take_of start first → Poured l at (piece_lines start first) m i
+      → end ≡ take_of between second → Poured m i (piece_lines between second) n j → (end ≡ take_of start piece) × Poured l at (piece_lines start piece) n j
+  two_parts p {between} a al b bl = (
     b ∙ (ap (λ s. take_of s second) a ∙ (sym (take-then start first second) ∙ ap (take_of start) (both p))),
-    poured-as (ap (pieceLines start) (sym (both p)) ∙ (lines-of-then start first second ∙ ap (λ s. pieceLines start first ++ pieceLines s second) (sym a))) (poured-then al bl),
+    poured_as (ap (piece_lines start) (sym (both p)) ∙ (lines-of-then start first second ∙ ap (λ s. piece_lines start first ++ piece_lines s second) (sym a))) (poured-then al bl),
   )
 
 -- ---- where no telegram is begun
@@ -83,28 +83,28 @@ none-begun {lister} m e = go (made_kept m).0 (made_kept m).1
     go (b ∷ more) k = absurd (omega (arith, k.counted, e))
 
 -- one telegram heard, as the memory and the count have it
-pub next-heard : (lister : Lister) (telegram : List ℕ) (before after : Listener) (tables : ℕ) → before ≡ lister.listener → HeardNext (heardBy before telegram) lister.tables after tables
+pub next-heard : (lister : Lister) (telegram : List ℕ) (before after : Listener) (tables : ℕ) → before ≡ lister.listener → HeardNext (heard_by before telegram) lister.tables after tables
     → state after tables (padded []) 0 ≡ keeping lister (telegram ∷ []) []
 next-heard lister telegram before after tables same next =
-    let n : HeardNext (heardBy lister.listener telegram) lister.tables after tables = subst (λ l. HeardNext (heardBy l telegram) lister.tables after tables) same next in
+    let n : HeardNext (heard_by lister.listener telegram) lister.tables after tables = subst (λ l. HeardNext (heard_by l telegram) lister.tables after tables) same next in
     ap (λ l. state l tables (padded []) 0) n.means ∙ heard-one lister telegram refl refl n.counts
 
-pub next-lines : (lister : Lister) (telegram : List ℕ) (before : Listener) → before ≡ lister.listener → linesFor lister.listener (telegram ∷ []) ≡ heardLines (heardBy before telegram)
-next-lines lister telegram before same = lines-of-one lister.listener telegram ∙ ap (λ l. heardLines (heardBy l telegram)) (sym same)
+pub next-lines : (lister : Lister) (telegram : List ℕ) (before : Listener) → before ≡ lister.listener → lines_for lister.listener (telegram ∷ []) ≡ heard_lines (heard_by before telegram)
+next-lines lister telegram before same = lines-of-one lister.listener telegram ∙ ap (λ l. heard_lines (heard_by l telegram)) (sym same)
 
 -- the same where none is begun: the telegram is a piece
 module _ {lister : Lister} (k : Kept lister []) (telegram : List ℕ) (whole : length telegram ≡ 26) where
-  pub whole-taken : (after : Listener) (tables : ℕ) → HeardNext (heardBy lister.listener telegram) lister.tables after tables
+  pub whole-taken : (after : Listener) (tables : ℕ) → HeardNext (heard_by lister.listener telegram) lister.tables after tables
       → state after tables lister.tail lister.kept ≡ take_of lister telegram
   whole-taken after tables next =
       (λ t. state after tables (k.stored t) (k.counted t)) ∙ (next-heard lister telegram lister.listener after tables refl next ∙ sym (take-one k telegram whole))
 
-  pub whole-lines : pieceLines lister telegram ≡ heardLines (heardBy lister.listener telegram)
+  pub whole-lines : piece_lines lister telegram ≡ heard_lines (heard_by lister.listener telegram)
   whole-lines = lines-one k telegram whole ∙ next-lines lister telegram lister.listener refl
 
 -- after whole telegrams none is begun
 pub none_after : {lister : Lister} → Kept lister [] → (bytes : List ℕ) → length bytes ≡ length bytes / 26 * 26 → (take_of lister bytes).kept ≡ 0
-unfolding take_of keeping tailOf
+unfolding take_of keeping tail_of
 none_after {lister} k bytes whole =
     ap (λ (x : List ℕ). length (drop (length x / 26 * 26) x)) (joined-kept k bytes) ∙ omega (arith, length-drop (length bytes / 26 * 26) bytes)
 
@@ -130,8 +130,8 @@ module _ (lister : Lister) (piece : List ℕ) (m : MadeByPieces lister) (begun :
       go (inl none) = inl none
       go (inr empty) = inr (omega (arith, whole_length))
 
-  pub whole-even : length (first lister piece whole) ≡ length (first lister piece whole) / 26 * 26
-  whole-even = omega (arith, whole_length)
+  pub whole_even : length (first lister piece whole) ≡ length (first lister piece whole) / 26 * 26
+  whole_even = omega (arith, whole_length)
 
   pub whole-left : {between : Lister} → between ≡ take_of lister (first lister piece whole) → between.kept + length (second lister piece whole) ≤ 26
   whole-left {between} same = go begun
@@ -141,7 +141,7 @@ module _ (lister : Lister) (piece : List ℕ) (m : MadeByPieces lister) (begun :
 
       go : (lister.kept ≡ 0) ⊎ (length piece ≡ 0) → between.kept + length (second lister piece whole) ≤ 26
       go (inl none) =
-          let kept : between.kept ≡ 0 = ap (λ (l : Lister). l.kept) same ∙ none_after (none-begun m none) (first lister piece whole) whole-even in
+          let kept : between.kept ≡ 0 = ap (λ (l : Lister). l.kept) same ∙ none_after (none-begun m none) (first lister piece whole) whole_even in
           omega (arith, kept, few)
       go (inr empty) = let kept = lacks (here lister (first lister piece whole) m same) in omega (arith, kept, length-take (length piece - whole) (drop whole piece), length-drop whole piece)
 

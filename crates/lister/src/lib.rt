@@ -2,11 +2,11 @@
 // has no room in the lent buffer is dropped, and the answer is the place past what was put.
 ghost use Rattle.std.specs.Prelude.{◌+◌, ◌-◌, ◌*◌, ◌/◌, ◌≤◌, min, ◌≡◌, [], ◌∷◌, length, cond, ◌⊎◌, eqb};
 ghost use Rattle.kit.specs.Put.{Poured};
-ghost use Rattle.listener.specs.Lent.{listenerIn, HeardIn};
+ghost use Rattle.listener.specs.Lent.{listener_in, HeardIn};
 ghost use Rattle.listener.specs.Listeners.{carries};
-ghost use Rattle.listing_tables.specs.Tables.{heardLines};
-ghost use Rattle.lister.specs.Hearings.{heardBy, linesFor};
-ghost use Rattle.lister.specs.Pieces.{mostTables, begunLister, keeping, take_of, pieceLines, MadeByPieces};
+ghost use Rattle.listing_tables.specs.Tables.{heard_lines};
+ghost use Rattle.lister.specs.Hearings.{heard_by, lines_for};
+ghost use Rattle.lister.specs.Pieces.{most_tables, begun_lister, keeping, take_of, piece_lines, MadeByPieces};
 ghost use Rattle.lister.specs.Lent.{HeardNext};
 
 use listener::{Answer, Listener};
@@ -40,7 +40,7 @@ struct Next {
 impl Lister {
     // Before any piece.
     pub fn begun() -> Self
-        ensures { result ≡ begunLister }
+        ensures { result ≡ begun_lister }
     {
         Lister {
             listener: Listener::fresh(),
@@ -54,7 +54,7 @@ impl Lister {
     // hand still lacks, then telegrams that lie whole in the piece, and then what is left.
     pub fn take(self, piece: &[u8], listing: &mut [u8], at: usize) -> Listed
         requires { MadeByPieces self }
-        ensures { (result.lister ≡ take_of self piece.now) × Poured listing.old at (pieceLines self piece.now) listing.new result.at }
+        ensures { (result.lister ≡ take_of self piece.now) × Poured listing.old at (piece_lines self piece.now) listing.new result.at }
     {
         let end = lacking(self.kept, piece.len());
         let listed = bite(self, &piece[0..end], listing, at);
@@ -79,7 +79,7 @@ fn lacking(kept: usize, size: usize) -> usize
 
 // How many tables were taken, so many more. The count stays at the greatest number that it can hold.
 fn tally(tables: u64, more: u64) -> u64
-    ensures { result ≡ min (tables + more) mostTables }
+    ensures { result ≡ min (tables + more) most_tables }
 {
     if u64::MAX - tables < more {
         return u64::MAX;
@@ -95,7 +95,7 @@ fn hear_next(
     listing: &mut [u8],
     at: usize,
 ) -> Next
-    ensures { HeardNext (heardBy (listenerIn memory.old) telegram.now) tables (listenerIn memory.new) result.tables × Poured listing.old at (heardLines (heardBy (listenerIn memory.old) telegram.now)) listing.new result.at × HeardIn carries memory.old telegram.now result.answer memory.new }
+    ensures { HeardNext (heard_by (listener_in memory.old) telegram.now) tables (listener_in memory.new) result.tables × Poured listing.old at (heard_lines (heard_by (listener_in memory.old) telegram.now)) listing.new result.at × HeardIn carries memory.old telegram.now result.answer memory.new }
 {
     let answer = listener::hear_in(memory, telegram);
     let tables = tally(tables, listing_tables::tables_of(answer));
@@ -120,7 +120,7 @@ pub fn hear_in(memory: &mut [u8; 310], telegram: &[u8]) -> Answer
 
 // Hears one telegram; nothing is left of it.
 fn hear_one(lister: Lister, telegram: &[u8], listing: &mut [u8], at: usize) -> Listed
-    ensures { (result.lister ≡ keeping lister (telegram.now ∷ []) []) × Poured listing.old at (linesFor lister.listener (telegram.now ∷ [])) listing.new result.at }
+    ensures { (result.lister ≡ keeping lister (telegram.now ∷ []) []) × Poured listing.old at (lines_for lister.listener (telegram.now ∷ [])) listing.new result.at }
 {
     let listener = lister.listener;
     let mut memory = listener::memory_of(listener);
@@ -141,7 +141,7 @@ fn hear_one(lister: Lister, telegram: &[u8], listing: &mut [u8], at: usize) -> L
 // the last.
 fn take_whole(lister: Lister, bytes: &[u8], listing: &mut [u8], at: usize) -> Listed
     requires { MadeByPieces lister × ((lister.kept ≡ 0) ⊎ (length bytes.now ≡ 0)) × (length bytes.now ≡ length bytes.now / 26 * 26) }
-    ensures { (result.lister ≡ take_of lister bytes.now) × Poured listing.old at (pieceLines lister bytes.now) listing.new result.at }
+    ensures { (result.lister ≡ take_of lister bytes.now) × Poured listing.old at (piece_lines lister bytes.now) listing.new result.at }
 {
     let listener = lister.listener;
     let tail = lister.tail;
@@ -171,7 +171,7 @@ fn take_whole(lister: Lister, bytes: &[u8], listing: &mut [u8], at: usize) -> Li
 // Takes a piece where no telegram is begun, or an empty one.
 fn take_rest(lister: Lister, piece: &[u8], listing: &mut [u8], at: usize) -> Listed
     requires { MadeByPieces lister × ((lister.kept ≡ 0) ⊎ (length piece.now ≡ 0)) }
-    ensures { (result.lister ≡ take_of lister piece.now) × Poured listing.old at (pieceLines lister piece.now) listing.new result.at }
+    ensures { (result.lister ≡ take_of lister piece.now) × Poured listing.old at (piece_lines lister piece.now) listing.new result.at }
 {
     let end = piece.len() / LENGTH * LENGTH;
     let listed = take_whole(lister, &piece[0..end], listing, at);
@@ -182,7 +182,7 @@ fn take_rest(lister: Lister, piece: &[u8], listing: &mut [u8], at: usize) -> Lis
 // Takes a piece that is not longer than what the telegram in hand still lacks.
 fn bite(lister: Lister, bytes: &[u8], listing: &mut [u8], at: usize) -> Listed
     requires { MadeByPieces lister × (lister.kept + length bytes.now ≤ 26) }
-    ensures { (result.lister ≡ take_of lister bytes.now) × Poured listing.old at (pieceLines lister bytes.now) listing.new result.at }
+    ensures { (result.lister ≡ take_of lister bytes.now) × Poured listing.old at (piece_lines lister bytes.now) listing.new result.at }
 {
     let mut tail = lister.tail;
     let kept = text::put_words(&mut tail, lister.kept, bytes);

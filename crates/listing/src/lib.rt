@@ -1,12 +1,12 @@
 // The listing of a recording: the whole of it from memory, and what stands at its end. The pieces between are those of `lister`.
 ghost use Rattle.kit.specs.Put.{Poured};
-ghost use Rattle.listing.specs.Listings.{tailLine, listing, end_of};
+ghost use Rattle.listing.specs.Listings.{tail_line, listing, end_of};
 
 use lister::Lister;
 
 // A line for a short tail.
 fn put_tail(kept: usize, out: &mut [u8], at: usize) -> usize
-    ensures { Poured out.old at (tailLine kept) out.new result }
+    ensures { Poured out.old at (tail_line kept) out.new result }
 {
     if kept == 0 {
         return text::put_words(out, at, b"");

@@ -1,8 +1,8 @@
 // How long the listing of a recording is, so that a host can tell a listing that fits its buffer exactly from one that was cut. The
 // recording is listed piece by piece into a buffer of its own, so that it may have any length.
 ghost use Rattle.std.specs.Prelude.{◌+◌, ◌≤◌, min, ◌≡◌, length};
-ghost use Rattle.lister.specs.Pieces.{take_of, pieceLines, MadeByPieces};
-ghost use Rattle.listing_length.specs.Lengths.{mostLength, listingLength, piece_size};
+ghost use Rattle.lister.specs.Pieces.{take_of, piece_lines, MadeByPieces};
+ghost use Rattle.listing_length.specs.Lengths.{most_length, listing_length, piece_size};
 
 use lister::Lister;
 
@@ -18,7 +18,7 @@ struct Counted {
 
 // So many bytes, and so many more. The sum stays at the greatest number that it can be.
 fn sum(bytes: usize, more: usize) -> usize
-    ensures { result ≡ min (bytes + more) mostLength }
+    ensures { result ≡ min (bytes + more) most_length }
 {
     if usize::MAX - bytes < more {
         return usize::MAX;
@@ -41,7 +41,7 @@ fn end_of(from: usize, size: usize) -> usize
 fn count_piece(lister: Lister, piece: &[u8], out: &mut [u8], bytes: usize) -> Counted
     requires { MadeByPieces lister }
     ensures { (result.lister ≡ take_of lister piece.now)
-        × (result.length ≡ min (bytes + min (length (pieceLines lister piece.now)) (length out.old)) mostLength) }
+        × (result.length ≡ min (bytes + min (length (piece_lines lister piece.now)) (length out.old)) most_length) }
 {
     let listed = lister.take(piece, out, 0);
     let next = listed.lister;
@@ -53,7 +53,7 @@ fn count_piece(lister: Lister, piece: &[u8], out: &mut [u8], bytes: usize) -> Co
 
 // How many bytes the listing of a recording has.
 pub fn length_of(recording: &[u8]) -> usize
-    ensures { result ≡ listingLength recording.now }
+    ensures { result ≡ listing_length recording.now }
 {
     // room for the lines of a piece, and for the table whose packets were held before it (specs/Lengths.antt)
     let mut out = [0u8; 13419];

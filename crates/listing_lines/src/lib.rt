@@ -1,6 +1,6 @@
 // The lines of a listing but for those of tables, put into a lent buffer: the header, the line of a refused telegram, and the end.
 ghost use Rattle.kit.specs.Put.{Poured};
-ghost use Rattle.listing_lines.specs.Lines.{headerLine, refusedLine, endLine};
+ghost use Rattle.listing_lines.specs.Lines.{header_line, refused_line, end_line};
 
 const LINE_FEED: u8 = b'\n';
 
@@ -15,14 +15,14 @@ pub const REFUSED: [u8; 8] = *b"refused ";
 const END: [u8; 4] = *b"end ";
 
 pub fn put_header(listing: &mut [u8], at: usize) -> usize
-    ensures { Poured listing.old at headerLine listing.new result }
+    ensures { Poured listing.old at header_line listing.new result }
 {
     text::put_words(listing, at, &HEADER)
 }
 
 // `refused N`.
 pub fn put_refused(number: u8, listing: &mut [u8], at: usize) -> usize
-    ensures { Poured listing.old at (refusedLine number) listing.new result }
+    ensures { Poured listing.old at (refused_line number) listing.new result }
 {
     let next = text::put_words(listing, at, &REFUSED);
     listing_words::put_number(number as u64, LINE_FEED, listing, next)
@@ -30,7 +30,7 @@ pub fn put_refused(number: u8, listing: &mut [u8], at: usize) -> usize
 
 // `end T`: how many tables were taken.
 pub fn put_end(tables: u64, listing: &mut [u8], at: usize) -> usize
-    ensures { Poured listing.old at (endLine tables) listing.new result }
+    ensures { Poured listing.old at (end_line tables) listing.new result }
 {
     let next = text::put_words(listing, at, &END);
     listing_words::put_number(tables, LINE_FEED, listing, next)

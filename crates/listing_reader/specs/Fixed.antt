@@ -1,10 +1,10 @@
 -- The fixed byte strings of a listing, compared: which of them a text is (F-08, A-37).
 use Rattle.std.specs.Prelude.{ℕ, List, [], ◌∷◌}
 use Rattle.kit.specs.Ladder.{ladder}
-use Rattle.same_text.specs.Same.{isSameText}
-use Rattle.text.specs.Words.{refusedWord}
-use Rattle.listing_words.specs.Words.{newWord, carriedWord}
-use Rattle.listing_lines.specs.Lines.{headerLine}
+use Rattle.same_text.specs.Same.{is_same_text}
+use Rattle.text.specs.Words.{refused_word}
+use Rattle.listing_words.specs.Words.{new_word, carried_word}
+use Rattle.listing_lines.specs.Lines.{header_line}
 use Rattle.listing_reader.specs.declared.Word.{Word}
 use Rattle.listing_reader.specs.declared.Word.TheVariants.{Header, New, Carried, Refused, Other}
 
@@ -12,10 +12,10 @@ use Rattle.listing_reader.specs.declared.Word.TheVariants.{Header, New, Carried,
 unfoldable pub word_of : List ℕ → Word
 word_of text =
     ladder Other
-    ((isSameText text headerLine, Header)
-    ∷ (isSameText text newWord, New)
-    ∷ (isSameText text carriedWord, Carried)
-    ∷ (isSameText text refusedWord, Refused)
+    ((is_same_text text header_line, Header)
+    ∷ (is_same_text text new_word, New)
+    ∷ (is_same_text text carried_word, Carried)
+    ∷ (is_same_text text refused_word, Refused)
     ∷ [])
 
 -- C-12: the number that other languages know a word by

@@ -7,38 +7,38 @@ use native.Mathlib.Omega.{arith}
 use Rattle.kit.specs.Bytes.{Bytes, word_at}
 use Rattle.kit.proofs.Bytes.{take-bytes, drop-bytes}
 use Rattle.kit.proofs.Cases.{on}
-use Rattle.frames.specs.Frames.{Framed, noBare, follows, size_of, isWholeFrame, first_of, behind, framedUpTo, calls_of, shortTail}
+use Rattle.frames.specs.Frames.{Framed, no_bare, follows, size_of, is_whole_frame, first_of, behind, framed_up_to, calls_of, short_tail}
 use Rattle.frames.proofs.Splitting.{tail-most}
-use Rattle.listener.specs.Listeners.{freshListener}
-use Rattle.lister.specs.Hearings.{linesFor}
-use Rattle.hearing_runs.specs.Runs.{framedTelegrams, shortTelegramLine, linesHeardBy, linesHeard}
-use Rattle.listing_room.specs.Rooms.{telegramsRoom}
-use Rattle.listing_room.proofs.Telegrams.{AllBytes, lines-room}
+use Rattle.listener.specs.Listeners.{fresh_listener}
+use Rattle.lister.specs.Hearings.{lines_for}
+use Rattle.hearing_runs.specs.Runs.{framed_telegrams, short_telegram_line, lines_heard_by, lines_heard}
+use Rattle.listing_room.specs.Rooms.{telegrams_room}
+use Rattle.listing_room.proofs.Telegrams.{AllBytes, lines_room_lem}
 
-framed-bytes : (bare most : ℕ) (input : List ℕ) → Bytes input → AllBytes (map (λ (call : Framed). call.1) (framedUpTo bare most input))
-unfolding framedUpTo first_of behind
-framed-bytes bare zero input fits = tt
-framed-bytes bare (suc most) input fits =
-    on (isWholeFrame bare input)
+framed_bytes_lem : (bare most : ℕ) (input : List ℕ) → Bytes input → AllBytes (map (λ (call : Framed). call.1) (framed_up_to bare most input))
+unfolding framed_up_to first_of behind
+framed_bytes_lem bare zero input fits = tt
+framed_bytes_lem bare (suc most) input fits =
+    on (is_whole_frame bare input)
     (λ e.
     rw e (
       take-bytes (follows bare (word_at input 0)) (drop 2 input) (drop-bytes 2 input fits),
-      framed-bytes bare most (drop (size_of bare input) input) (drop-bytes (size_of bare input) input fits),
+      framed_bytes_lem bare most (drop (size_of bare input) input) (drop-bytes (size_of bare input) input fits),
     ))
     (λ e. rw e tt)
 
-short-long : length shortTelegramLine ≡ 15
-unfolding shortTelegramLine
+short-long : length short_telegram_line ≡ 15
+unfolding short_telegram_line
 short-long = refl
 
 -- M-1b, G-03, G-07: the room for the telegrams that the input has whole, and 15 bytes more, for an input that ends inside one
-pub hearing-short : (input : List ℕ) → Bytes input → length (linesHeard input) ≤ telegramsRoom (length (framedTelegrams input)) + 15
-unfolding linesHeard linesHeardBy framedTelegrams calls_of
-hearing-short input fits =
+pub hearing_short : (input : List ℕ) → Bytes input → length (lines_heard input) ≤ telegrams_room (length (framed_telegrams input)) + 15
+unfolding lines_heard lines_heard_by framed_telegrams calls_of
+hearing_short input fits =
     omega (
       arith,
-      length-append (linesFor freshListener (framedTelegrams input)) (shortTail noBare shortTelegramLine input),
-      lines-room (framedTelegrams input) (framed-bytes noBare (length input) input fits),
-      tail-most noBare shortTelegramLine input,
+      length-append (lines_for fresh_listener (framed_telegrams input)) (short_tail no_bare short_telegram_line input),
+      lines_room_lem (framed_telegrams input) (framed_bytes_lem no_bare (length input) input fits),
+      tail-most no_bare short_telegram_line input,
       short-long,
     )

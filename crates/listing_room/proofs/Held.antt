@@ -7,21 +7,21 @@ use lib.ListN.{get_or}
 use lib.Seq.{get_or-set_other}
 use native.Mathlib.Omega.{arith}
 use borrow.Author.Tests.{eqb-true, eqb-false}
-use Rattle.kit.specs.Loops.{howMany, fold}
+use Rattle.kit.specs.Loops.{how_many, fold}
 use Rattle.kit.proofs.Cases.{on}
 use Rattle.kit.proofs.Loops.{count_same}
-use Rattle.telegram.specs.Tables.{packets, firstPacket}
+use Rattle.telegram.specs.Tables.{packets, first_packet}
 use Rattle.telegram.specs.declared.Telegram.{Telegram}
-use Rattle.hand.specs.Sets.{begun, setFor, joined, is_whole}
+use Rattle.hand.specs.Sets.{begun, set_for, joined, is_whole}
 use Rattle.hand.specs.declared.Hand.{Hand}
 
 -- L-04: how many are held
-abbrev pub heldCount : Hand → ℕ
-heldCount hand = howMany (λ k. get_or hand.held k false) packets
+abbrev pub held_count : Hand → ℕ
+held_count hand = how_many (λ k. get_or hand.held k false) packets
 
 -- tests that agree but for one place count at most one more
-one_more : (f g : ℕ → Bool) (at : ℕ) → ((k : ℕ) → (k ≡ at → ⊥) → g k ≡ f k) → (n : ℕ) → howMany g n ≤ howMany f n + 1
-unfolding howMany fold
+one_more : (f g : ℕ → Bool) (at : ℕ) → ((k : ℕ) → (k ≡ at → ⊥) → g k ≡ f k) → (n : ℕ) → how_many g n ≤ how_many f n + 1
+unfolding how_many fold
 one_more f g at same zero = omega arith
 one_more f g at same (suc n) =
     on (eqb n at)
@@ -36,23 +36,23 @@ one_more f g at same (suc n) =
     on (f n) (λ b. rw (e, b) (omega (arith, before))) (λ b. rw (e, b) (omega (arith, before))))
 
 -- L-03: a telegram that joins a set
-pub joined-count : (hand : Hand) (t : Telegram) → heldCount (joined hand t) ≤ heldCount hand + 1
+pub joined-count : (hand : Hand) (t : Telegram) → held_count (joined hand t) ≤ held_count hand + 1
 unfolding joined
 joined-count hand t =
-    one_more (λ k. get_or hand.held k false) (λ k. get_or (joined hand t).held k false) (t.packet - firstPacket)
-    (λ k other. get_or-set_other hand.held (t.packet - firstPacket) k true false other) packets
+    one_more (λ k. get_or hand.held k false) (λ k. get_or (joined hand t).held k false) (t.packet - first_packet)
+    (λ k other. get_or-set_other hand.held (t.packet - first_packet) k true false other) packets
 
 -- L-03: a set that begins
-pub begun-count : (step : ℕ) → heldCount (begun step) ≡ 0
-unfolding begun howMany fold
+pub begun-count : (step : ℕ) → held_count (begun step) ≡ 0
+unfolding begun how_many fold
 begun-count step = refl
 
 -- L-03: the set that a telegram goes into has no more than the one in hand
-pub set-count : (hand : Hand) (step : ℕ) → heldCount (setFor hand step) ≤ heldCount hand
-unfolding setFor
+pub set-count : (hand : Hand) (step : ℕ) → held_count (set_for hand step) ≤ held_count hand
+unfolding set_for
 set-count hand step = on (eqb hand.step step) (λ e. rw e (omega arith)) (λ e. rw e (omega (arith, begun-count step)))
 
 -- L-04: a whole set
-pub whole-count : (hand : Hand) → is_whole hand ≡ true → heldCount hand ≡ packets
+pub whole_count_lem : (hand : Hand) → is_whole hand ≡ true → held_count hand ≡ packets
 unfolding is_whole
-whole-count hand e = eqb-true (heldCount hand) packets e
+whole_count_lem hand e = eqb-true (held_count hand) packets e

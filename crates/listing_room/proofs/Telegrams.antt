@@ -11,30 +11,30 @@ use native.Mathlib.Omega.{arith}
 use Rattle.kit.specs.Bytes.{Bytes}
 use Rattle.kit.proofs.Cases.{on}
 use Rattle.kit.proofs.Loops.{count_most}
-use Rattle.condition.specs.Slots.{emptySlot}
+use Rattle.condition.specs.Slots.{empty_slot}
 use Rattle.wire.specs.declared.verdicts.Verdict.{Verdict}
 use Rattle.wire.specs.declared.verdicts.Verdict.TheVariants.{Accepted, Refused}
 use Rattle.telegram.specs.Tables.{packets}
 use Rattle.telegram.specs.Telegrams.{read_of}
 use Rattle.telegram.specs.declared.Telegram.{Telegram}
-use Rattle.telegram.proofs.Valid.{never-invalid}
+use Rattle.telegram.proofs.Valid.{never_invalid}
 use Rattle.picture.specs.Pictures.{clashes}
-use Rattle.hand.specs.Sets.{begun, setFor, is_held, joined, is_whole}
-use Rattle.last_step.specs.LastSteps.{isLast}
-use Rattle.listener.specs.Answers.{Hearing, refusedAs, asRepeat, asHeld}
-use Rattle.listener.specs.Listeners.{carries, freshListener, holding, takenBy, toldOfTable, heardOf, afterReading, hearOf}
+use Rattle.hand.specs.Sets.{begun, set_for, is_held, joined, is_whole}
+use Rattle.last_step.specs.LastSteps.{is_last}
+use Rattle.listener.specs.Answers.{Hearing, refused_as, as_repeat, as_held}
+use Rattle.listener.specs.Listeners.{carries, fresh_listener, holding, taken_by, told_of_table, heard_of, after_reading, hear_of}
 use Rattle.listener.specs.declared.Listener.{Listener}
-use Rattle.listener.proofs.Every.{Every, fresh-every, hear-every}
-use Rattle.listener.proofs.Hearing.{heard-last, heard-copy, heard-part, heard-clash, heard-taken}
-use Rattle.listing_tables.specs.Tables.{heardLines}
-use Rattle.lister.specs.Hearings.{heardBy, listenerThrough, linesFor}
-use Rattle.listing_room.specs.Rooms.{telegramsRoom}
-use Rattle.listing_room.proofs.Held.{heldCount, joined-count, begun-count, set-count, whole-count}
+use Rattle.listener.proofs.Every.{Every, fresh_every, hear_every}
+use Rattle.listener.proofs.Hearing.{heard-last, heard_copy, heard-part, heard-clash, heard-taken}
+use Rattle.listing_tables.specs.Tables.{heard_lines}
+use Rattle.lister.specs.Hearings.{heard_by, listener_through, lines_for}
+use Rattle.listing_room.specs.Rooms.{telegrams_room}
+use Rattle.listing_room.proofs.Held.{held_count, joined-count, begun-count, set-count, whole_count_lem}
 use Rattle.listing_room.proofs.Lines.{refused-short}
-use Rattle.listing_room.proofs.Sizes.{Small, number-byte, hear-small}
+use Rattle.listing_room.proofs.Sizes.{Small, number_byte, hear-small}
 use Rattle.listing_room.proofs.Tables.{Narrow, heard-short}
 
-pub empty-narrow : Narrow emptySlot
+pub empty-narrow : Narrow empty_slot
 empty-narrow = (refl, omega arith)
 
 -- ---- one telegram
@@ -42,65 +42,65 @@ empty-narrow = (refl, omega arith)
 -- its lines, and the room for further telegrams and the packets then in hand, have place in the room for all of them and the packets in hand now
 abbrev Paid : Listener → Hearing → Type 0
 Paid listener heard =
-    (further : ℕ) → length (heardLines heard) + telegramsRoom (further + heldCount heard.listener.hand) ≤ telegramsRoom (suc further + heldCount listener.hand)
+    (further : ℕ) → length (heard_lines heard) + telegrams_room (further + held_count heard.listener.hand) ≤ telegrams_room (suc further + held_count listener.hand)
 
 -- nothing is printed, and at most one packet more is held
-silent-paid : (listener : Listener) (heard : Hearing) → heardLines heard ≡ [] → heldCount heard.listener.hand ≤ heldCount listener.hand + 1 → Paid listener heard
-silent-paid listener heard silent one further = omega (arith, ap length silent, one)
+silent_paid : (listener : Listener) (heard : Hearing) → heard_lines heard ≡ [] → held_count heard.listener.hand ≤ held_count listener.hand + 1 → Paid listener heard
+silent_paid listener heard silent one further = omega (arith, ap length silent, one)
 
 -- a refusal is printed, and no packet more is held
-refusal-paid : (listener : Listener) (heard : Hearing) → length (heardLines heard) ≤ 11 → heldCount heard.listener.hand ≤ heldCount listener.hand → Paid listener heard
-refusal-paid listener heard short none further = omega (arith, short, none)
+refusal_paid : (listener : Listener) (heard : Hearing) → length (heard_lines heard) ≤ 11 → held_count heard.listener.hand ≤ held_count listener.hand → Paid listener heard
+refusal_paid listener heard short none further = omega (arith, short, none)
 
 -- a table is printed, four packets were held before, and none is
-table-paid : (listener : Listener) (heard : Hearing) → length (heardLines heard) ≤ 639 → 4 ≤ heldCount listener.hand → heldCount heard.listener.hand ≡ 0 → Paid listener heard
-table-paid listener heard short four none further = omega (arith, short, four, none)
+table_paid : (listener : Listener) (heard : Hearing) → length (heard_lines heard) ≤ 639 → 4 ≤ held_count listener.hand → held_count heard.listener.hand ≡ 0 → Paid listener heard
+table_paid listener heard short four none further = omega (arith, short, four, none)
 
-paid-as : (listener : Listener) {heard way : Hearing} → heard ≡ way → Paid listener way → Paid listener heard
-paid-as listener e = subst (Paid listener) (sym e)
+paid_as : (listener : Listener) {heard way : Hearing} → heard ≡ way → Paid listener way → Paid listener heard
+paid_as listener e = subst (Paid listener) (sym e)
 
 module _ (reach : ℕ) (listener : Listener) where
-  heard-paid : (t : Telegram) → length (heardLines (heardOf reach listener t)) ≤ 639 → Paid listener (heardOf reach listener t)
-  unfolding takenBy heardLines
-  heard-paid t short =
+  heard_paid : (t : Telegram) → length (heard_lines (heard_of reach listener t)) ≤ 639 → Paid listener (heard_of reach listener t)
+  unfolding taken_by heard_lines
+  heard_paid t short =
       let hand = listener.hand in
-      let own = setFor hand t.step in
+      let own = set_for hand t.step in
       let with_it = joined own t in
-      let more : heldCount with_it ≤ heldCount hand + 1 = omega (arith, joined-count own t, set-count hand t.step) in
-      let repeat : Hearing = record { told = asRepeat; listener = listener } in
-      let part : Hearing = record { told = asHeld; listener = holding listener with_it } in
-      let dropped : Hearing = record { told = refusedAs 15; listener = holding listener (begun 0) } in
-      let taken : Hearing = record { told = toldOfTable listener with_it; listener = takenBy reach listener with_it } in
-      on (isLast listener.last t.step)
-      (λ a. paid-as listener (heard-last reach listener t a) (silent-paid listener repeat refl (omega arith)))
+      let more : held_count with_it ≤ held_count hand + 1 = omega (arith, joined-count own t, set-count hand t.step) in
+      let repeat : Hearing = record { told = as_repeat; listener = listener } in
+      let part : Hearing = record { told = as_held; listener = holding listener with_it } in
+      let dropped : Hearing = record { told = refused_as 15; listener = holding listener (begun 0) } in
+      let taken : Hearing = record { told = told_of_table listener with_it; listener = taken_by reach listener with_it } in
+      on (is_last listener.last t.step)
+      (λ a. paid_as listener (heard-last reach listener t a) (silent_paid listener repeat refl (omega arith)))
       (λ a.
       on (is_held own t.packet)
-      (λ b. paid-as listener (heard-copy reach listener t a b) (silent-paid listener repeat refl (omega arith)))
+      (λ b. paid_as listener (heard_copy reach listener t a b) (silent_paid listener repeat refl (omega arith)))
       (λ b.
       on (is_whole with_it)
       (λ c.
       on (clashes with_it.slots)
-      (λ d. paid-as listener (heard-clash reach listener t a b c d) (refusal-paid listener dropped (refused-short 15 (omega arith)) (omega (arith, begun-count 0))))
+      (λ d. paid_as listener (heard-clash reach listener t a b c d) (refusal_paid listener dropped (refused-short 15 (omega arith)) (omega (arith, begun-count 0))))
       (λ d.
       let e = heard-taken reach listener t a b c d in
-      paid-as listener e (table-paid listener taken (subst (λ h. length (heardLines h) ≤ 639) e short) (omega (arith, whole-count with_it c, more)) (begun-count 0))))
-      (λ c. paid-as listener (heard-part reach listener t a b c) (silent-paid listener part refl more))))
+      paid_as listener e (table_paid listener taken (subst (λ h. length (heard_lines h) ≤ 639) e short) (omega (arith, whole_count_lem with_it c, more)) (begun-count 0))))
+      (λ c. paid_as listener (heard-part reach listener t a b c) (silent_paid listener part refl more))))
 
-  after-paid : (t : Telegram) (verdict : Verdict) → Small (afterReading verdict reach listener t).told → length (heardLines (afterReading verdict reach listener t)) ≤ 639
-      → Paid listener (afterReading verdict reach listener t)
-  unfolding heardLines
-  after-paid t Accepted small short = heard-paid t short
-  after-paid t (Refused number) small short = refusal-paid listener (record { told = refusedAs number; listener = listener }) (refused-short number (omega (arith, small.number))) (omega arith)
+  after_paid : (t : Telegram) (verdict : Verdict) → Small (after_reading verdict reach listener t).told → length (heard_lines (after_reading verdict reach listener t)) ≤ 639
+      → Paid listener (after_reading verdict reach listener t)
+  unfolding heard_lines
+  after_paid t Accepted small short = heard_paid t short
+  after_paid t (Refused number) small short = refusal_paid listener (record { told = refused_as number; listener = listener }) (refused-short number (omega (arith, small.number))) (omega arith)
 
 module _ (listener : Listener) (narrow : Every Narrow listener) (telegram : List ℕ) (bytes : Bytes telegram) where
-  next-narrow : Every Narrow (heardBy listener telegram).listener
-  next-narrow = hear-every Narrow empty-narrow carries listener (read_of telegram) narrow (λ k. (never-invalid telegram k, number-byte telegram bytes k))
+  next-narrow : Every Narrow (heard_by listener telegram).listener
+  next-narrow = hear_every Narrow empty-narrow carries listener (read_of telegram) narrow (λ k. (never_invalid telegram k, number_byte telegram bytes k))
 
-  telegram-paid : Paid listener (heardBy listener telegram)
-  unfolding hearOf
-  telegram-paid =
+  telegram_paid : Paid listener (heard_by listener telegram)
+  unfolding hear_of
+  telegram_paid =
       let small = hear-small carries listener telegram in
-      after-paid carries listener (read_of telegram).telegram (read_of telegram).verdict small (heard-short (heardBy listener telegram) small next-narrow.picture)
+      after_paid carries listener (read_of telegram).telegram (read_of telegram).verdict small (heard-short (heard_by listener telegram) small next-narrow.picture)
 
 -- ---- telegrams one after another
 
@@ -109,31 +109,31 @@ abbrev pub AllBytes : List (List ℕ) → Type 0
 AllBytes [] = Unit
 AllBytes (telegram ∷ more) = Bytes telegram × AllBytes more
 
-lines-paid : (telegrams : List (List ℕ)) → AllBytes telegrams → (listener : Listener) → Every Narrow listener
-    → length (linesFor listener telegrams) ≤ telegramsRoom (length telegrams + heldCount listener.hand)
-unfolding linesFor
-lines-paid [] bytes listener narrow = omega arith
-lines-paid (telegram ∷ more) (own, bytes) listener narrow =
-    let heard = heardBy listener telegram in
+lines_paid : (telegrams : List (List ℕ)) → AllBytes telegrams → (listener : Listener) → Every Narrow listener
+    → length (lines_for listener telegrams) ≤ telegrams_room (length telegrams + held_count listener.hand)
+unfolding lines_for
+lines_paid [] bytes listener narrow = omega arith
+lines_paid (telegram ∷ more) (own, bytes) listener narrow =
+    let heard = heard_by listener telegram in
     omega (
       arith,
-      length-append (heardLines heard) (linesFor heard.listener more),
-      telegram-paid listener narrow telegram own (length more),
-      lines-paid more bytes heard.listener (next-narrow listener narrow telegram own),
+      length-append (heard_lines heard) (lines_for heard.listener more),
+      telegram_paid listener narrow telegram own (length more),
+      lines_paid more bytes heard.listener (next-narrow listener narrow telegram own),
     )
 
-pub through-narrow : (telegrams : List (List ℕ)) → AllBytes telegrams → (listener : Listener) → Every Narrow listener → Every Narrow (listenerThrough listener telegrams)
-unfolding listenerThrough
-through-narrow [] bytes listener narrow = narrow
-through-narrow (telegram ∷ more) (own, bytes) listener narrow =
-    through-narrow more bytes (heardBy listener telegram).listener (next-narrow listener narrow telegram own)
+pub through_narrow : (telegrams : List (List ℕ)) → AllBytes telegrams → (listener : Listener) → Every Narrow listener → Every Narrow (listener_through listener telegrams)
+unfolding listener_through
+through_narrow [] bytes listener narrow = narrow
+through_narrow (telegram ∷ more) (own, bytes) listener narrow =
+    through_narrow more bytes (heard_by listener telegram).listener (next-narrow listener narrow telegram own)
 
 -- after any telegrams at most five packets are held
-pub lines_more : (telegrams : List (List ℕ)) → AllBytes telegrams → (listener : Listener) → Every Narrow listener → length (linesFor listener telegrams) ≤ telegramsRoom (length telegrams) + 639
+pub lines_more : (telegrams : List (List ℕ)) → AllBytes telegrams → (listener : Listener) → Every Narrow listener → length (lines_for listener telegrams) ≤ telegrams_room (length telegrams) + 639
 lines_more telegrams bytes listener narrow =
-    omega (arith, lines-paid telegrams bytes listener narrow, count_most (λ k. get_or listener.hand.held k false) packets)
+    omega (arith, lines_paid telegrams bytes listener narrow, count_most (λ k. get_or listener.hand.held k false) packets)
 
 -- G-03, G-07: a fresh listener holds no packet
-pub lines-room : (telegrams : List (List ℕ)) → AllBytes telegrams → length (linesFor freshListener telegrams) ≤ telegramsRoom (length telegrams)
-unfolding freshListener
-lines-room telegrams bytes = omega (arith, lines-paid telegrams bytes freshListener (fresh-every Narrow empty-narrow), begun-count 0)
+pub lines_room_lem : (telegrams : List (List ℕ)) → AllBytes telegrams → length (lines_for fresh_listener telegrams) ≤ telegrams_room (length telegrams)
+unfolding fresh_listener
+lines_room_lem telegrams bytes = omega (arith, lines_paid telegrams bytes fresh_listener (fresh_every Narrow empty-narrow), begun-count 0)

@@ -4,21 +4,21 @@ use Rattle.std.specs.Prelude.{ℕ, ◌+◌, ◌*◌, ◌/◌, ◌%◌}
 
 -- the room for the lines of so many telegrams, which a fresh listener hears: 639 bytes for each five of them, a table's, and 11 for each one
 -- over, a refusal's
-abbrev pub telegramsRoom : ℕ → ℕ
-telegramsRoom count = count / 5 * 639 + count % 5 * 11
+abbrev pub telegrams_room : ℕ → ℕ
+telegrams_room count = count / 5 * 639 + count % 5 * 11
 
 -- how many bytes of a recording are read at once: four hundred telegrams
-abbrev pub pieceRoom : ℕ
-pieceRoom = 10400
+abbrev pub piece_room : ℕ
+piece_room = 10400
 
 -- the room for the lines of a piece
-abbrev pub linesRoom : ℕ
-linesRoom = 262080
+abbrev pub lines_room : ℕ
+lines_room = 262080
 
 -- the room for the header
-abbrev pub headerRoom : ℕ
-headerRoom = 16
+abbrev pub header_room : ℕ
+header_room = 16
 
 -- the room for the line of a short tail and the last line
-abbrev pub endRoom : ℕ
-endRoom = 64
+abbrev pub end_room : ℕ
+end_room = 64

@@ -1,12 +1,12 @@
 // The line of a condition and the line of a table on a page. A word is put with the blank after it.
 ghost use Rattle.std.specs.Prelude.{◌≡◌, cond, [], ◌∷◌, ◌++◌, ltb, length, ◌+◌, ◌-◌, ◌<◌, ◌≤◌};
 ghost use Rattle.page.specs.Pages.{Paged};
-ghost use Rattle.wire.specs.Distances.{noValue};
+ghost use Rattle.wire.specs.Distances.{no_value};
 ghost use Rattle.text.specs.Words.{blank};
-ghost use Rattle.listing_words.specs.Words.{lineFeed, minus, numberThen, distanceText, markWord};
-ghost use Rattle.listing_seconds.specs.Seconds.{secondWord, systemWord, limitWord};
-ghost use Rattle.listing_entries.specs.Entries.{entryLine};
-ghost use Rattle.listing_lines.specs.Lines.{tableLine};
+ghost use Rattle.listing_words.specs.Words.{line_feed, minus, number_then, distance_text, mark_word};
+ghost use Rattle.listing_seconds.specs.Seconds.{second_word, system_word, limit_word};
+ghost use Rattle.listing_entries.specs.Entries.{entry_line};
+ghost use Rattle.listing_lines.specs.Lines.{table_line};
 
 use condition::{Body, Slot};
 use listing_lines::TABLE;
@@ -23,7 +23,7 @@ const MINUS: u8 = b'-';
 
 // A distance without its sign.
 fn metres(word: u16) -> u16
-    ensures { result ≡ cond (ltb word noValue) word (0x10000 - word) }
+    ensures { result ≡ cond (ltb word no_value) word (0x10000 - word) }
 {
     if word < NO_VALUE {
         return word;
@@ -42,7 +42,7 @@ fn put_none(page: &mut [u8], at: usize) -> usize
 // A distance in metres, or `-` where it has no value.
 fn put_distance(page: &mut [u8], at: usize, word: u16) -> usize
     requires { at + 9 ≤ length page.old }
-    ensures { Paged 7 page.old at (distanceText word ++ (blank ∷ [])) page.new result }
+    ensures { Paged 7 page.old at (distance_text word ++ (blank ∷ [])) page.new result }
 {
     if word == NO_VALUE {
         return put_none(page, at);
@@ -54,7 +54,7 @@ fn put_distance(page: &mut [u8], at: usize, word: u16) -> usize
 // `voltage/country`, or `-` where the change distance has no value.
 fn put_system(page: &mut [u8], at: usize, change: u16, country: u16, voltage: u8) -> usize
     requires { at + 12 ≤ length page.old }
-    ensures { Paged 10 page.old at (systemWord change country voltage ++ (blank ∷ [])) page.new result }
+    ensures { Paged 10 page.old at (system_word change country voltage ++ (blank ∷ [])) page.new result }
 {
     if change == NO_VALUE {
         return put_none(page, at);
@@ -66,7 +66,7 @@ fn put_system(page: &mut [u8], at: usize, change: u16, country: u16, voltage: u8
 // The limit, or `-` where the change distance has no value.
 fn put_limit(page: &mut [u8], at: usize, change: u16, limit: u16) -> usize
     requires { at + 8 ≤ length page.old }
-    ensures { Paged 6 page.old at (limitWord change limit ++ (blank ∷ [])) page.new result }
+    ensures { Paged 6 page.old at (limit_word change limit ++ (blank ∷ [])) page.new result }
 {
     if change == NO_VALUE {
         return put_none(page, at);
@@ -77,7 +77,7 @@ fn put_limit(page: &mut [u8], at: usize, change: u16, limit: u16) -> usize
 // What the second word of a condition says.
 fn put_second(body: Body, page: &mut [u8], at: usize) -> usize
     requires { at + 12 ≤ length page.old }
-    ensures { Paged 10 page.old at (secondWord body ++ (blank ∷ [])) page.new result }
+    ensures { Paged 10 page.old at (second_word body ++ (blank ∷ [])) page.new result }
 {
     match body {
         Body::Empty => page::put_byte(page, at, BLANK),
@@ -94,7 +94,7 @@ fn put_second(body: Body, page: &mut [u8], at: usize) -> usize
 // `carried` or `new`, and the end of the line.
 fn put_mark(page: &mut [u8], at: usize, carried: bool) -> usize
     requires { at + 8 ≤ length page.old }
-    ensures { Paged 8 page.old at (markWord carried ++ (lineFeed ∷ [])) page.new result }
+    ensures { Paged 8 page.old at (mark_word carried ++ (line_feed ∷ [])) page.new result }
 {
     if carried {
         let next = page::put_short_text(page, at, &CARRIED);
@@ -107,7 +107,7 @@ fn put_mark(page: &mut [u8], at: usize, carried: bool) -> usize
 // Slot, number and type.
 fn put_numbers(page: &mut [u8], at: usize, place: u8, number: u8, kind: u8) -> usize
     requires { at + 16 ≤ length page.old }
-    ensures { Paged 12 page.old at (numberThen place blank ++ (numberThen number blank ++ numberThen kind blank)) page.new result }
+    ensures { Paged 12 page.old at (number_then place blank ++ (number_then number blank ++ number_then kind blank)) page.new result }
 {
     let second = page::put_short_number(page, at, place, BLANK);
     let third = page::put_number(page, second, number as u16, BLANK);
@@ -117,7 +117,7 @@ fn put_numbers(page: &mut [u8], at: usize, place: u8, number: u8, kind: u8) -> u
 // What the first and the second word say.
 fn put_both(first: u16, body: Body, page: &mut [u8], at: usize) -> usize
     requires { at + 19 ≤ length page.old }
-    ensures { Paged 17 page.old at (distanceText first ++ ((blank ∷ []) ++ (secondWord body ++ (blank ∷ [])))) page.new result }
+    ensures { Paged 17 page.old at (distance_text first ++ ((blank ∷ []) ++ (second_word body ++ (blank ∷ [])))) page.new result }
 {
     let next = put_distance(page, at, first);
     put_second(body, page, next)
@@ -126,7 +126,7 @@ fn put_both(first: u16, body: Body, page: &mut [u8], at: usize) -> usize
 // The line of a slot, where it is occupied.
 pub fn put_entry(place: usize, slot: Slot, carried: bool, page: &mut [u8], at: usize) -> usize
     requires { (place < 256) × (at + 37 ≤ length page.old) }
-    ensures { Paged 37 page.old at (entryLine place slot carried) page.new result }
+    ensures { Paged 37 page.old at (entry_line place slot carried) page.new result }
 {
     if !slot.is_occupied() {
         return at;
@@ -141,7 +141,7 @@ pub fn put_entry(place: usize, slot: Slot, carried: bool, page: &mut [u8], at: u
 // `table S K G`: the step number, how many conditions the table has, and the gap.
 pub fn put_table_line(step: u16, count: u8, gap: u16, page: &mut [u8], at: usize) -> usize
     requires { at + 24 ≤ length page.old }
-    ensures { Paged 22 page.old at (tableLine step count gap) page.new result }
+    ensures { Paged 22 page.old at (table_line step count gap) page.new result }
 {
     let first = page::put_short_text(page, at, &TABLE);
     let second = page::put_number(page, first, step, BLANK);

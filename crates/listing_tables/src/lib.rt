@@ -5,10 +5,10 @@ mod entries;
 ghost use Rattle.std.specs.Prelude.{◌≡◌, ◌++◌, length, ◌+◌, ◌≤◌};
 ghost use Rattle.kit.specs.Put.{Poured};
 ghost use Rattle.page.specs.Pages.{Paged};
-ghost use Rattle.memory.specs.Memory.{pictureIn, marksIn};
-ghost use Rattle.listener.specs.Answers.{toldOf};
-ghost use Rattle.listing_lines.specs.Lines.{tableLine};
-ghost use Rattle.listing_tables.specs.Tables.{pictureLines, refusalLines, answerLines, tables_of};
+ghost use Rattle.memory.specs.Memory.{picture_in, marks_in};
+ghost use Rattle.listener.specs.Answers.{told_of};
+ghost use Rattle.listing_lines.specs.Lines.{table_line};
+ghost use Rattle.listing_tables.specs.Tables.{picture_lines, refusal_lines, answer_lines, tables_of};
 
 use condition::SLOTS;
 use listener::Answer;
@@ -16,7 +16,7 @@ use listener::Answer;
 // A line for each occupied slot of the picture, on a page.
 fn put_picture(memory: &[u8; 310], page: &mut [u8], at: usize) -> usize
     requires { at + 740 ≤ length page.old }
-    ensures { Paged 740 page.old at (pictureLines (pictureIn memory.now) (marksIn memory.now)) page.new result }
+    ensures { Paged 740 page.old at (picture_lines (picture_in memory.now) (marks_in memory.now)) page.new result }
 {
     let mut next = at;
     let mut i: usize = 0;
@@ -38,7 +38,7 @@ fn put_table(
     listing: &mut [u8],
     at: usize,
 ) -> usize
-    ensures { Poured listing.old at (tableLine step count gap ++ pictureLines (pictureIn memory.now) (marksIn memory.now)) listing.new result }
+    ensures { Poured listing.old at (table_line step count gap ++ picture_lines (picture_in memory.now) (marks_in memory.now)) listing.new result }
 {
     let mut page = [0u8; 768];
     let first = entries::put_table_line(step, count, gap, &mut page, 0);
@@ -48,7 +48,7 @@ fn put_table(
 
 // A line for a refusal, and none for any other answer.
 fn put_refusal(answer: Answer, listing: &mut [u8], at: usize) -> usize
-    ensures { Poured listing.old at (refusalLines (toldOf answer)) listing.new result }
+    ensures { Poured listing.old at (refusal_lines (told_of answer)) listing.new result }
 {
     let Answer::Refused(number) = answer else {
         return text::put_words(listing, at, b"");
@@ -58,7 +58,7 @@ fn put_refusal(answer: Answer, listing: &mut [u8], at: usize) -> usize
 
 // The lines of an answer, with the memory of the listener that gave it.
 pub fn put_heard(answer: Answer, memory: &[u8; 310], listing: &mut [u8], at: usize) -> usize
-    ensures { Poured listing.old at (answerLines (toldOf answer) (pictureIn memory.now) (marksIn memory.now)) listing.new result }
+    ensures { Poured listing.old at (answer_lines (told_of answer) (picture_in memory.now) (marks_in memory.now)) listing.new result }
 {
     let Answer::Taken { step, count, gap } = answer else {
         return put_refusal(answer, listing, at);
@@ -68,7 +68,7 @@ pub fn put_heard(answer: Answer, memory: &[u8; 310], listing: &mut [u8], at: usi
 
 // How many tables an answer takes: one or none.
 pub fn tables_of(answer: Answer) -> u64
-    ensures { result ≡ tables_of (toldOf answer) }
+    ensures { result ≡ tables_of (told_of answer) }
 {
     let Answer::Taken { .. } = answer else {
         return 0;

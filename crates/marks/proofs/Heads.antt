@@ -12,16 +12,16 @@ use Rattle.marks.specs.Lent.{IsHead}
 -- ---- heads
 
 -- the lower three bytes of a number
-lower-three : (head : ℕ) → head % 0x1000000 ≡ head % 256 + (head / 256 % 256) * 256 + (head / 0x10000 % 256) * 0x10000
-lower-three head = omega arith
+lower_three : (head : ℕ) → head % 0x1000000 ≡ head % 256 + (head / 256 % 256) * 256 + (head / 0x10000 % 256) * 0x10000
+lower_three head = omega arith
 
 head_three : (head number shape own : ℕ) → IsHead number shape own head → head % 0x1000000 ≡ number + shape * 256 + own * 0x10000
-head_three head number shape own bytes = omega (arith, lower-three head, bytes.0, bytes.1, bytes.2)
+head_three head number shape own bytes = omega (arith, lower_three head, bytes.0, bytes.1, bytes.2)
 
 module _ (head number shape own : ℕ) (bytes : IsHead number shape own head) (other number' shape' own' : ℕ) (bytes' : IsHead number' shape' own' other) where
   -- two heads agree in them exactly where the slots do
-  pub heads-alike : eqb (head % 0x1000000) (other % 0x1000000) ≡ eqb number number' && (eqb shape shape' && eqb own own')
-  heads-alike =
+  pub heads_alike : eqb (head % 0x1000000) (other % 0x1000000) ≡ eqb number number' && (eqb shape shape' && eqb own own')
+  heads_alike =
       on (eqb (head % 0x1000000) (other % 0x1000000))
       (λ e.
       let same : head % 0x1000000 ≡ other % 0x1000000 = eqb-true _ _ e in
@@ -45,19 +45,19 @@ module _ (head number shape own : ℕ) (bytes : IsHead number shape own head) (o
 
 -- ---- products of flags
 
-pub flags-fit : (a b : Bool) → bool_byte a * bool_byte b ≤ 1
-flags-fit true true = omega arith
-flags-fit true false = omega arith
-flags-fit false b = omega arith
+pub flags_fit : (a b : Bool) → bool_byte a * bool_byte b ≤ 1
+flags_fit true true = omega arith
+flags_fit true false = omega arith
+flags_fit false b = omega arith
 
-pub flags-both : (a b : Bool) → not (eqb (bool_byte a * bool_byte b) 0) ≡ a && b
-flags-both true true = refl
-flags-both true false = refl
-flags-both false true = refl
-flags-both false false = refl
+pub flags_both : (a b : Bool) → not (eqb (bool_byte a * bool_byte b) 0) ≡ a && b
+flags_both true true = refl
+flags_both true false = refl
+flags_both false true = refl
+flags_both false false = refl
 
-pub flags-second : (a b : Bool) → bool_byte (not a) * bool_byte b ≡ cond (not a && b) 1 0
-flags-second true true = refl
-flags-second true false = refl
-flags-second false true = refl
-flags-second false false = refl
+pub flags_second : (a b : Bool) → bool_byte (not a) * bool_byte b ≡ cond (not a && b) 1 0
+flags_second true true = refl
+flags_second true false = refl
+flags_second false true = refl
+flags_second false false = refl

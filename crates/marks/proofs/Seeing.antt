@@ -11,14 +11,14 @@ use borrow.Author.Tests.{eqb-true, eqb-false, ne_eqb}
 use Rattle.kit.specs.Loops.{any}
 use Rattle.kit.proofs.Cases.{on, clash}
 use Rattle.kit.proofs.Loops.{scan-none}
-use Rattle.condition.specs.Slots.{slotCount}
-use Rattle.memory.specs.Memory.{slotPlace}
-use Rattle.marks.specs.Lent.{Seen, hasBoth}
+use Rattle.condition.specs.Slots.{slot_count}
+use Rattle.memory.specs.Memory.{slot_place}
+use Rattle.marks.specs.Lent.{Seen, has_both}
 
 module _ (memory : List ℕ) where
   -- the number of slot j of the picture
   abbrev shown : ℕ → ℕ
-  shown j = get_or memory (slotPlace 0 j) 0
+  shown j = get_or memory (slot_place 0 j) 0
 
   pub seen_none : (seen : List Bool) → length seen ≡ 256 → Seen memory 0 seen
   seen_none seen long = record { flag = λ j p. absurd (omega arith); long = long }
@@ -39,9 +39,9 @@ module _ (memory : List ℕ) where
         }
 
   -- no slot of the picture has a number that was not seen in any of them
-  pub unseen : (seen : List Bool) (number kind : ℕ) → Seen memory slotCount seen → get_or seen number false ≡ false → any (hasBoth memory number kind) 0 slotCount ≡ false
+  pub unseen : (seen : List Bool) (number kind : ℕ) → Seen memory slot_count seen → get_or seen number false ≡ false → any (has_both memory number kind) 0 slot_count ≡ false
   unseen seen number kind s off =
-      scan-none (hasBoth memory number kind) (λ j. true) false 0 slotCount
+      scan-none (has_both memory number kind) (λ j. true) false 0 slot_count
       (λ j low p.
       rw
       (ne_eqb (shown j) number

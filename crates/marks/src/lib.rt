@@ -1,10 +1,10 @@
 // Which entries of the set in the lent memory of a listener are carried on from the picture before it.
 ghost use Rattle.std.specs.Prelude.{◌+◌, ◌<◌, ◌≤◌, cond, not, true, false, ◌&&◌, ◌≡◌, length, get_or, set};
 ghost use Rattle.kit.specs.Loops.{any};
-ghost use Rattle.condition.specs.Slots.{slotCount};
-ghost use Rattle.memory.specs.Memory.{kindFrom, pictureIn, setIn};
-ghost use Rattle.marks.specs.Marks.{marksOf};
-ghost use Rattle.marks.specs.Lent.{hasBoth, isAlike, isThere, allThere, IsHead, setHolds, Sorted, Seen};
+ghost use Rattle.condition.specs.Slots.{slot_count};
+ghost use Rattle.memory.specs.Memory.{kind_from, picture_in, set_in};
+ghost use Rattle.marks.specs.Marks.{marks_of};
+ghost use Rattle.marks.specs.Lent.{has_both, is_alike, is_there, all_there, IsHead, set_holds, Sorted, Seen};
 
 use condition::SLOTS;
 use kinds::{CURRENT, TRACTION};
@@ -15,7 +15,7 @@ const THREE_BYTES: u32 = 0x1000000;
 
 // The type of a slot, by the byte that says what it holds and the byte after it.
 fn kind_of(shape: u8, own: u8) -> u8
-    ensures { result ≡ kindFrom shape own }
+    ensures { result ≡ kind_from shape own }
 {
     match shape {
         0 => 0,
@@ -28,7 +28,7 @@ fn kind_of(shape: u8, own: u8) -> u8
 // Whether slot j of the picture has the number and the type.
 fn has_both(memory: &[u8; 310], j: usize, number: u8, kind: u8) -> bool
     requires { j < 20 }
-    ensures { result ≡ hasBoth memory.now number kind j }
+    ensures { result ≡ has_both memory.now number kind j }
 {
     let at = PICTURE + SLOT * j;
     if memory[at] != number {
@@ -39,7 +39,7 @@ fn has_both(memory: &[u8; 310], j: usize, number: u8, kind: u8) -> bool
 
 // Whether any slot of the picture has them.
 fn is_known(memory: &[u8; 310], number: u8, kind: u8) -> bool
-    ensures { result ≡ any (hasBoth memory.now number kind) 0 slotCount }
+    ensures { result ≡ any (has_both memory.now number kind) 0 slot_count }
 {
     let mut j: usize = 0;
     while j < SLOTS {
@@ -70,7 +70,7 @@ fn head_at(memory: &[u8; 310], at: usize) -> u32
 // Whether slot i of the set and slot i of the picture begin with the same three bytes: then they have one number and one type.
 fn is_alike(memory: &[u8; 310], i: usize) -> bool
     requires { i < 20 }
-    ensures { result ≡ isAlike memory.now i }
+    ensures { result ≡ is_alike memory.now i }
 {
     head_at(memory, SET + SLOT * i) % THREE_BYTES
         == head_at(memory, PICTURE + SLOT * i) % THREE_BYTES
@@ -79,7 +79,7 @@ fn is_alike(memory: &[u8; 310], i: usize) -> bool
 // Whether slot i of the set is occupied.
 fn is_occupied(memory: &[u8; 310], i: usize) -> bool
     requires { i < 20 }
-    ensures { result ≡ setHolds memory.now i }
+    ensures { result ≡ set_holds memory.now i }
 {
     head_at(memory, SET + SLOT * i) / 256 % 256 != 0
 }
@@ -121,8 +121,8 @@ fn sort_one(
 
 // Each slot is sorted so. The answer is how many others there are.
 fn sort_out(memory: &[u8; 310], marks: &mut [bool; 20], others: &mut [usize; 20]) -> usize
-    requires { (length marks.old ≡ slotCount) × (length others.old ≡ slotCount) }
-    ensures { Sorted memory.now slotCount 0 result others.new marks.new }
+    requires { (length marks.old ≡ slot_count) × (length others.old ≡ slot_count) }
+    ensures { Sorted memory.now slot_count 0 result others.new marks.new }
 {
     let mut count: usize = 0;
     let mut i: usize = 0;
@@ -143,7 +143,7 @@ fn see(seen: &mut [bool; 256], number: u8)
 // The number of each slot of the picture is seen, an empty one's too.
 fn see_all(memory: &[u8; 310], seen: &mut [bool; 256])
     requires { length seen.old ≡ 256 }
-    ensures { Seen memory.now slotCount seen.new }
+    ensures { Seen memory.now slot_count seen.new }
 {
     let mut k: usize = 0;
     while k < SLOTS {
@@ -161,8 +161,8 @@ fn is_seen(seen: &[bool; 256], number: u8) -> bool
 
 // Whether the picture has the number of slot i, which is occupied, with its type. A number that was not seen need not be searched for.
 fn is_there(memory: &[u8; 310], seen: &[bool; 256], i: usize) -> bool
-    requires { (i < 20) × (setHolds memory.now i ≡ true) × Seen memory.now slotCount seen.now }
-    ensures { result ≡ isThere memory.now i }
+    requires { (i < 20) × (set_holds memory.now i ≡ true) × Seen memory.now slot_count seen.now }
+    ensures { result ≡ is_there memory.now i }
 {
     let at = SET + SLOT * i;
     if is_seen(seen, memory[at]) {
@@ -174,8 +174,8 @@ fn is_there(memory: &[u8; 310], seen: &[bool; 256], i: usize) -> bool
 
 // Each of the others is marked if the picture has it.
 fn look_up(memory: &[u8; 310], others: &[usize; 20], count: usize, marks: &mut [bool; 20])
-    requires { Sorted memory.now slotCount 0 count others.now marks.old }
-    ensures { marks.new ≡ allThere memory.now }
+    requires { Sorted memory.now slot_count 0 count others.now marks.old }
+    ensures { marks.new ≡ all_there memory.now }
 {
     let mut seen = [false; 256];
     see_all(memory, &mut seen);
@@ -189,7 +189,7 @@ fn look_up(memory: &[u8; 310], others: &[usize; 20], count: usize, marks: &mut [
 
 // For each slot of the set whether it is occupied and the picture has its number with its type.
 fn all_there(memory: &[u8; 310]) -> [bool; 20]
-    ensures { result ≡ allThere memory.now }
+    ensures { result ≡ all_there memory.now }
 {
     let mut marks = [false; 20];
     let mut others = [0usize; 20];
@@ -203,7 +203,7 @@ fn all_there(memory: &[u8; 310]) -> [bool; 20]
 
 // The marks of the set's slots: true for carried, false for new and for empty. The reach is the greatest gap over which one is carried.
 pub fn marks_of(reach: u16, gap: u16, memory: &[u8; 310]) -> [bool; 20]
-    ensures { result ≡ marksOf reach gap (pictureIn memory.now) (setIn memory.now) }
+    ensures { result ≡ marks_of reach gap (picture_in memory.now) (set_in memory.now) }
 {
     if gap == 0 {
         return [false; 20];

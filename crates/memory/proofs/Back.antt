@@ -8,62 +8,62 @@ use lib.Seq.{sets, ext_get_or}
 use native.Mathlib.Omega.{arith}
 use Rattle.kit.proofs.Each.{length-each, each_at}
 use Rattle.kit.proofs.Maps.{map_at}
-use Rattle.kit.proofs.Stores.{sets-in}
-use Rattle.condition.specs.Slots.{emptySlot, slotCount}
+use Rattle.kit.proofs.Stores.{sets_in}
+use Rattle.condition.specs.Slots.{empty_slot, slot_count}
 use Rattle.condition.specs.declared.slots.Slot.{Slot}
-use Rattle.telegram.specs.Tables.{tableSlot}
-use Rattle.memory.specs.Memory.{slotRoom, slotPlace, table_at, slotBytes, tableBytes, is_set, flagByte, flagsAt}
-use Rattle.memory.proofs.Slots.{slot-in, length-table, flag-in, length-flags, slot_same, slot-length, slot-back}
+use Rattle.telegram.specs.Tables.{table_slot}
+use Rattle.memory.specs.Memory.{slot_room, slot_place, table_at, slot_bytes, table_bytes, is_set, flag_byte, flags_at}
+use Rattle.memory.proofs.Slots.{slot_in_lem, length-table, flag_in, length_flags, slot_same, slot-length, slot-back}
 
 -- ---- a table
 
 module _ (table : List Slot) where
   abbrev bytes : ℕ → List ℕ
-  bytes i = slotBytes (tableSlot table i)
+  bytes i = slot_bytes (table_slot table i)
 
-  abbrev sized : (i : ℕ) → length (bytes i) ≡ slotRoom
-  sized i = slot-length (tableSlot table i)
+  abbrev sized : (i : ℕ) → length (bytes i) ≡ slot_room
+  sized i = slot-length (table_slot table i)
 
-  pub table-length : length (tableBytes table) ≡ slotRoom * slotCount
-  unfolding tableBytes
-  table-length = length-each bytes slotRoom sized 0 slotCount
+  pub table-length : length (table_bytes table) ≡ slot_room * slot_count
+  unfolding table_bytes
+  table-length = length-each bytes slot_room sized 0 slot_count
 
   -- byte r of slot i among its bytes
-  byte_at : (i r : ℕ) → i < slotCount → r < slotRoom → get_or (tableBytes table) (i * slotRoom + r) 0 ≡ get_or (bytes i) (0 + r) 0
-  unfolding tableBytes
+  byte_at : (i r : ℕ) → i < slot_count → r < slot_room → get_or (table_bytes table) (i * slot_room + r) 0 ≡ get_or (bytes i) (0 + r) 0
+  unfolding table_bytes
   byte_at i r p q =
       let slot : 0 + i ≡ i = omega arith in
       let byte : r ≡ 0 + r = omega arith in
-      each_at bytes slotRoom sized 0 0 slotCount i r p q ∙ (λ t. get_or (bytes (slot t)) (byte t) 0)
+      each_at bytes slot_room sized 0 0 slot_count i r p q ∙ (λ t. get_or (bytes (slot t)) (byte t) 0)
 
   module _ (memory : List ℕ) (from : ℕ) where
-    pub table-back : length table ≡ slotCount → from + slotRoom * slotCount ≤ length memory → table_at (sets memory from (tableBytes table)) from ≡ table
+    pub table-back : length table ≡ slot_count → from + slot_room * slot_count ≤ length memory → table_at (sets memory from (table_bytes table)) from ≡ table
     table-back twenty fits =
-        let after = sets memory from (tableBytes table) in
-        ext_get_or emptySlot (table_at after from) table (length-table after from ∙ sym twenty)
+        let after = sets memory from (table_bytes table) in
+        ext_get_or empty_slot (table_at after from) table (length-table after from ∙ sym twenty)
         (λ i p.
-        let q : i < slotCount = omega (arith, length-table after from) in
-        slot-in after from i q
-        ∙ (slot_same after (bytes i) (slotPlace from i) 0
+        let q : i < slot_count = omega (arith, length-table after from) in
+        slot_in_lem after from i q
+        ∙ (slot_same after (bytes i) (slot_place from i) 0
         (λ r s.
-        let e : slotPlace from i + r ≡ from + (i * slotRoom + r) = omega arith in
+        let e : slot_place from i + r ≡ from + (i * slot_room + r) = omega arith in
         ap (λ (n : ℕ). get_or after n 0) e
-        ∙ (sets-in 0 (tableBytes table) memory from (i * slotRoom + r) (omega (arith, table-length)) (omega (arith, table-length)) ∙ byte_at i r q s))
-        ∙ slot-back (tableSlot table i)))
+        ∙ (sets_in 0 (table_bytes table) memory from (i * slot_room + r) (omega (arith, table-length)) (omega (arith, table-length)) ∙ byte_at i r q s))
+        ∙ slot-back (table_slot table i)))
 
 -- ---- flags
 
-flag-back : (flag : Bool) → is_set (flagByte flag) ≡ flag
+flag-back : (flag : Bool) → is_set (flag_byte flag) ≡ flag
 flag-back true = refl
 flag-back false = refl
 
-pub flags-back : (flags : List Bool) (memory : List ℕ) (from : ℕ) → from + length flags ≤ length memory
-    → flagsAt (sets memory from (map flagByte flags)) from (length flags) ≡ flags
-flags-back flags memory from fits =
-    let after = sets memory from (map flagByte flags) in
-    ext_get_or false (flagsAt after from (length flags)) flags (length-flags after from (length flags))
+pub flags_back : (flags : List Bool) (memory : List ℕ) (from : ℕ) → from + length flags ≤ length memory
+    → flags_at (sets memory from (map flag_byte flags)) from (length flags) ≡ flags
+flags_back flags memory from fits =
+    let after = sets memory from (map flag_byte flags) in
+    ext_get_or false (flags_at after from (length flags)) flags (length_flags after from (length flags))
     (λ k p.
-    let q : k < length flags = omega (arith, length-flags after from (length flags)) in
-    let long = length-map flags flagByte in
-    flag-in after from (length flags) k q
-    ∙ (ap is_set (sets-in 0 (map flagByte flags) memory from k (omega (arith, long)) (omega (arith, long)) ∙ map_at flagByte flags k false 0 q) ∙ flag-back (get_or flags k false)))
+    let q : k < length flags = omega (arith, length_flags after from (length flags)) in
+    let long = length-map flags flag_byte in
+    flag_in after from (length flags) k q
+    ∙ (ap is_set (sets_in 0 (map flag_byte flags) memory from k (omega (arith, long)) (omega (arith, long)) ∙ map_at flag_byte flags k false 0 q) ∙ flag-back (get_or flags k false)))

@@ -2,8 +2,8 @@
 ghost use Rattle.std.specs.Prelude.{◌+◌, ◌≤◌, ◌≡◌, ◌∷◌, ◌++◌, get_or, false};
 ghost use Rattle.std.proofs.lemmas.List.Edits.{sets};
 ghost use Rattle.kit.specs.Bytes.{word_bytes};
-ghost use Rattle.telegram.specs.Tables.{tableSlot};
-ghost use Rattle.memory.specs.Memory.{setFrom, bodyFrom, storedSlot, table_at, slotBytes, tableBytes, withSlot, withPicture, withMarks, pictureIn, setIn, marksIn};
+ghost use Rattle.telegram.specs.Tables.{table_slot};
+ghost use Rattle.memory.specs.Memory.{set_from, body_from, stored_slot, table_at, slot_bytes, table_bytes, with_slot, with_picture, with_marks, picture_in, set_in, marks_in};
 
 use condition::{Body, SLOTS, Slot};
 
@@ -22,7 +22,7 @@ pub const SET: usize = 170;
 
 // What a slot holds.
 fn body_of(shape: u8, own: u8, first: u16, second: u16) -> Body
-    ensures { result ≡ bodyFrom shape own first second }
+    ensures { result ≡ body_from shape own first second }
 {
     match shape {
         0 => Body::Empty,
@@ -46,7 +46,7 @@ fn body_of(shape: u8, own: u8, first: u16, second: u16) -> Body
 // The slot whose bytes begin at `at`.
 fn slot_at(memory: &[u8; 310], at: usize) -> Slot
     requires { at + 7 ≤ 310 }
-    ensures { result ≡ storedSlot memory.now at }
+    ensures { result ≡ stored_slot memory.now at }
 {
     let first = wire::word(memory[at + 3], memory[at + 4]);
     let second = wire::word(memory[at + 5], memory[at + 6]);
@@ -58,7 +58,7 @@ fn slot_at(memory: &[u8; 310], at: usize) -> Slot
 
 // Slot i of the picture.
 pub fn shown_slot(memory: &[u8; 310], i: usize) -> Slot
-    ensures { result ≡ tableSlot (pictureIn memory.now) i }
+    ensures { result ≡ table_slot (picture_in memory.now) i }
 {
     if i < SLOTS {
         return slot_at(memory, PICTURE + SLOT * i);
@@ -68,7 +68,7 @@ pub fn shown_slot(memory: &[u8; 310], i: usize) -> Slot
 
 // Whether slot i of the picture is marked as carried.
 pub fn is_marked(memory: &[u8; 310], i: usize) -> bool
-    ensures { result ≡ get_or (marksIn memory.now) i false }
+    ensures { result ≡ get_or (marks_in memory.now) i false }
 {
     if i < SLOTS {
         return memory[MARKS + i] != 0;
@@ -92,21 +92,21 @@ fn table_at(memory: &[u8; 310], from: usize) -> [Slot; 20]
 
 // The picture.
 pub fn picture_in(memory: &[u8; 310]) -> [Slot; 20]
-    ensures { result ≡ pictureIn memory.now }
+    ensures { result ≡ picture_in memory.now }
 {
     table_at(memory, PICTURE)
 }
 
 // The slots of the set in hand.
 pub fn set_in(memory: &[u8; 310]) -> [Slot; 20]
-    ensures { result ≡ setIn memory.now }
+    ensures { result ≡ set_in memory.now }
 {
     table_at(memory, SET)
 }
 
 // Which slots of the picture are marked as carried.
 pub fn marks_in(memory: &[u8; 310]) -> [bool; 20]
-    ensures { result ≡ marksIn memory.now }
+    ensures { result ≡ marks_in memory.now }
 {
     let mut marks = [false; 20];
     let mut i: usize = 0;
@@ -142,7 +142,7 @@ fn put_seven(
 // The bytes of a slot.
 fn put_bytes(memory: &mut [u8; 310], at: usize, slot: Slot)
     requires { at + 7 ≤ 310 }
-    ensures { memory.new ≡ sets memory.old at (slotBytes slot) }
+    ensures { memory.new ≡ sets memory.old at (slot_bytes slot) }
 {
     let number = slot.number;
     let body = slot.body;
@@ -160,7 +160,7 @@ fn put_bytes(memory: &mut [u8; 310], at: usize, slot: Slot)
 
 // Slot i of the set in hand is put in; past the twentieth nothing is.
 pub fn put_slot(memory: &mut [u8; 310], i: usize, slot: Slot)
-    ensures { memory.new ≡ withSlot memory.old i slot }
+    ensures { memory.new ≡ with_slot memory.old i slot }
 {
     let whole: &[u8] = memory;
     if i < SLOTS {
@@ -171,7 +171,7 @@ pub fn put_slot(memory: &mut [u8; 310], i: usize, slot: Slot)
 // The bytes of a table.
 fn put_table(memory: &mut [u8; 310], from: usize, table: [Slot; 20])
     requires { from + 140 ≤ 310 }
-    ensures { memory.new ≡ sets memory.old from (tableBytes table) }
+    ensures { memory.new ≡ sets memory.old from (table_bytes table) }
 {
     let mut i: usize = 0;
     while i < SLOTS {
@@ -182,21 +182,21 @@ fn put_table(memory: &mut [u8; 310], from: usize, table: [Slot; 20])
 
 // A table becomes the picture.
 pub fn put_picture(memory: &mut [u8; 310], table: [Slot; 20])
-    ensures { memory.new ≡ sets memory.old 0 (tableBytes table) }
+    ensures { memory.new ≡ sets memory.old 0 (table_bytes table) }
 {
     put_table(memory, PICTURE, table)
 }
 
 // A table becomes the slots of the set in hand.
 pub fn put_set(memory: &mut [u8; 310], table: [Slot; 20])
-    ensures { memory.new ≡ sets memory.old setFrom (tableBytes table) }
+    ensures { memory.new ≡ sets memory.old set_from (table_bytes table) }
 {
     put_table(memory, SET, table)
 }
 
 // The slots of the set in hand become the picture.
 pub fn show(memory: &mut [u8; 310])
-    ensures { memory.new ≡ withPicture memory.old }
+    ensures { memory.new ≡ with_picture memory.old }
 {
     let whole: &[u8] = memory;
     let mut k: usize = 0;
@@ -208,7 +208,7 @@ pub fn show(memory: &mut [u8; 310])
 
 // The marks of the picture's slots.
 pub fn put_marks(memory: &mut [u8; 310], marks: [bool; 20])
-    ensures { memory.new ≡ withMarks memory.old marks }
+    ensures { memory.new ≡ with_marks memory.old marks }
 {
     let whole: &[u8] = memory;
     let mut i: usize = 0;

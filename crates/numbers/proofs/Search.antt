@@ -1,6 +1,6 @@
 -- Which numbers a live order has, and that the search for the next one finds the first permitted number.
 --
--- `permitted-exists` is what the search rests on (D-15): twenty numbers of places and at most 220 that may rest are fewer than 255,
+-- `permitted_exists` is what the search rests on (D-15): twenty numbers of places and at most 220 that may rest are fewer than 255,
 -- so of the 255 numbers after the last one given one is none of them.
 use Prim.Native.Nat.{ℕ, ◌+◌, ◌<◌, ◌≤◌}
 use mathlib.Core.Path.{◌≡◌, refl, sym, ◌∙◌, subst}
@@ -12,72 +12,72 @@ use native.Mathlib.Omega.{arith}
 use borrow.Author.Tests.{eqb-true, eq-eqb, ltb-true, ltb-false, not-true}
 use Rattle.kit.specs.Loops.{find}
 use Rattle.kit.specs.Member.{member}
-use Rattle.kit.proofs.Cases.{on, clash, given, or-neither, and_both}
-use Rattle.kit.proofs.Loops.{scan-at, find-before, found-there, found-when, any_none, any_some}
-use Rattle.kit.proofs.Member.{member-map, member-append, pigeonhole}
-use Rattle.places.specs.Places.{placeAt, freePlace}
-use Rattle.condition.specs.Slots.{slotCount}
+use Rattle.kit.proofs.Cases.{on, clash, given, or_neither, and_both}
+use Rattle.kit.proofs.Loops.{scan-at, find-before, found-there, found_when, any_none, any_some}
+use Rattle.kit.proofs.Member.{member-map, member_append, pigeonhole}
+use Rattle.places.specs.Places.{place_at, free_place}
+use Rattle.condition.specs.Slots.{slot_count}
 use Rattle.places.specs.declared.Place.{Place}
-use Rattle.numbers.specs.Numbers.{hasNumber, isPermitted, numberAfter, nextNumber}
+use Rattle.numbers.specs.Numbers.{has_number, is_permitted, number_after, next_number}
 
 -- ---- the numbers of live orders (D-12)
 
-pub number-none : (places : List Place) (n i : ℕ) → hasNumber places n ≡ false → i < slotCount → (placeAt places i).slot.number ≡ n → ⊥
-unfolding hasNumber
+pub number-none : (places : List Place) (n i : ℕ) → has_number places n ≡ false → i < slot_count → (place_at places i).slot.number ≡ n → ⊥
+unfolding has_number
 number-none places n i h p e =
-    clash (eq-eqb (placeAt places i).slot.number n e)
-    (any_none (λ i. eqb (placeAt places i).slot.number n) 0 slotCount h i (omega arith) (omega arith))
+    clash (eq-eqb (place_at places i).slot.number n e)
+    (any_none (λ i. eqb (place_at places i).slot.number n) 0 slot_count h i (omega arith) (omega arith))
 
-pub number-some : (places : List Place) (n : ℕ) → hasNumber places n ≡ true → (i : ℕ) × (i < slotCount) × ((placeAt places i).slot.number ≡ n)
-unfolding hasNumber
+pub number-some : (places : List Place) (n : ℕ) → has_number places n ≡ true → (i : ℕ) × (i < slot_count) × ((place_at places i).slot.number ≡ n)
+unfolding has_number
 number-some places n h =
-    given (any_some (λ i. eqb (placeAt places i).slot.number n) 0 slotCount h)
-    (λ (i, a, b, e). (i, omega arith, eqb-true (placeAt places i).slot.number n e))
+    given (any_some (λ i. eqb (place_at places i).slot.number n) 0 slot_count h)
+    (λ (i, a, b, e). (i, omega arith, eqb-true (place_at places i).slot.number n e))
 
 -- the numbers of twenty places cover those that live orders have
 abbrev placed : List Place → List ℕ
 placed places = map (λ (p : Place). p.slot.number) places
 
-covers-placed : (places : List Place) → length places ≡ slotCount → (n : ℕ) → hasNumber places n ≡ true → member n (placed places) ≡ true
+covers-placed : (places : List Place) → length places ≡ slot_count → (n : ℕ) → has_number places n ≡ true → member n (placed places) ≡ true
 covers-placed places twenty n h =
     given (number-some places n h)
     (λ (i, p, same).
-    subst (λ (m : ℕ). member m (placed places) ≡ true) same (member-map (λ (p : Place). p.slot.number) freePlace places i (omega (arith, twenty))))
+    subst (λ (m : ℕ). member m (placed places) ≡ true) same (member-map (λ (p : Place). p.slot.number) free_place places i (omega (arith, twenty))))
 
 -- ---- the search
 
 -- D-10, D-11: 255 numbers after the last one are all different
-after-injective : (last i j : ℕ) → i < 255 → j < 255 → numberAfter last i ≡ numberAfter last j → i ≡ j
-after-injective last i j p q e = omega arith
+after_injective : (last i j : ℕ) → i < 255 → j < 255 → number_after last i ≡ number_after last j → i ≡ j
+after_injective last i j p q e = omega arith
 
 module _ (resting : ℕ → Bool) (places : List Place) where
-  pub permitted-when : (n : ℕ) → hasNumber places n ≡ false → resting n ≡ false → isPermitted resting places n ≡ true
-  permitted-when n a b = rw (a, b) refl
+  pub permitted_when : (n : ℕ) → has_number places n ≡ false → resting n ≡ false → is_permitted resting places n ≡ true
+  permitted_when n a b = rw (a, b) refl
 
-  pub permitted-only : (n : ℕ) → isPermitted resting places n ≡ true → (hasNumber places n ≡ false) × (resting n ≡ false)
+  pub permitted-only : (n : ℕ) → is_permitted resting places n ≡ true → (has_number places n ≡ false) × (resting n ≡ false)
   permitted-only n h = given (and_both _ _ h) (λ (a, b). (not-true _ a, not-true _ b))
 
   module _ (last : ℕ) where
     -- D-09: the first permitted number after the last one given
-    pub number-first : (i : ℕ) → i < 255 → isPermitted resting places (numberAfter last i) ≡ true
-        → ((j : ℕ) → j < i → isPermitted resting places (numberAfter last j) ≡ false) → nextNumber resting places last ≡ numberAfter last i
-    unfolding nextNumber
+    pub number-first : (i : ℕ) → i < 255 → is_permitted resting places (number_after last i) ≡ true
+        → ((j : ℕ) → j < i → is_permitted resting places (number_after last j) ≡ false) → next_number resting places last ≡ number_after last i
+    unfolding next_number
     number-first i p e before =
-        scan-at (λ others. isPermitted resting places (numberAfter last others)) (numberAfter last) 0 0 255 i (omega arith) (omega arith) e (λ j a b. before j b)
+        scan-at (λ others. is_permitted resting places (number_after last others)) (number_after last) 0 0 255 i (omega arith) (omega arith) e (λ j a b. before j b)
 
     -- D-09: a number is the first permitted one, after so many others that are not
     pub record FirstPermitted (number : ℕ) : Type 0 where
       pub others : ℕ
       pub few : others < 255
-      pub after : number ≡ numberAfter last others
-      pub permitted : isPermitted resting places (numberAfter last others) ≡ true
-      pub passed : (j : ℕ) → j < others → isPermitted resting places (numberAfter last j) ≡ false
+      pub after : number ≡ number_after last others
+      pub permitted : is_permitted resting places (number_after last others) ≡ true
+      pub passed : (j : ℕ) → j < others → is_permitted resting places (number_after last j) ≡ false
 
     -- where one of the 255 is permitted, the search ends at the first that is
-    search-ends : (i : ℕ) → i < 255 → isPermitted resting places (numberAfter last i) ≡ true → FirstPermitted (nextNumber resting places last)
-    search-ends i p e =
-        let test : ℕ → Bool = λ others. isPermitted resting places (numberAfter last others) in
-        given (found-there test 255 (found-when test 255 i p e))
+    search_ends : (i : ℕ) → i < 255 → is_permitted resting places (number_after last i) ≡ true → FirstPermitted (next_number resting places last)
+    search_ends i p e =
+        let test : ℕ → Bool = λ others. is_permitted resting places (number_after last others) in
+        given (found-there test 255 (found_when test 255 i p e))
         (λ (q, t).
         record {
           others = find test 255;
@@ -88,46 +88,46 @@ module _ (resting : ℕ → Bool) (places : List Place) where
         })
 
 module _ (resting : ℕ → Bool) (kept : List ℕ) (covered : (n : ℕ) → resting n ≡ true → member n kept ≡ true) (few : length kept ≤ 220)
-    (places : List Place) (twenty : length places ≡ slotCount) (last : ℕ) where
+    (places : List Place) (twenty : length places ≡ slot_count) (last : ℕ) where
   -- D-15, A-07: there always is a permitted number
-  pub permitted-exists : (i : ℕ) × (i < 255) × (isPermitted resting places (numberAfter last i) ≡ true)
-  permitted-exists =
+  pub permitted_exists : (i : ℕ) × (i < 255) × (is_permitted resting places (number_after last i) ≡ true)
+  permitted_exists =
       given
-      (pigeonhole (numberAfter last) 255 (after-injective last) (placed places ++ kept)
+      (pigeonhole (number_after last) 255 (after_injective last) (placed places ++ kept)
       (omega (arith, length-append (placed places) kept, length-map places (λ (p : Place). p.slot.number), twenty, few)))
       (λ (i, p, out).
-      let n : ℕ = numberAfter last i in
-      given (or-neither (member n (placed places)) (member n kept) (sym (member-append n (placed places) kept) ∙ out))
+      let n : ℕ = number_after last i in
+      given (or_neither (member n (placed places)) (member n kept) (sym (member_append n (placed places) kept) ∙ out))
       (λ (a, b). (
         i,
         p,
-        permitted-when resting places n
-            (on (hasNumber places n) (λ t. absurd (clash (covers-placed places twenty n t) a)) (λ t. t))
+        permitted_when resting places n
+            (on (has_number places n) (λ t. absurd (clash (covers-placed places twenty n t) a)) (λ t. t))
             (on (resting n) (λ t. absurd (clash (covered n t) b)) (λ t. t)),
       )))
 
   -- .. so a search that has passed k others has not passed all
-  pub others-few : (k : ℕ) → ((j : ℕ) → j < k → isPermitted resting places (numberAfter last j) ≡ false) → k < 255
+  pub others-few : (k : ℕ) → ((j : ℕ) → j < k → is_permitted resting places (number_after last j) ≡ false) → k < 255
   others-few k before =
-      given permitted-exists
+      given permitted_exists
       (λ (i, p, e). on (ltb i k) (λ t. absurd (clash e (before i (ltb-true i k t)))) (λ t. omega (arith, ltb-false i k t)))
 
-  pub search-found : FirstPermitted resting places last (nextNumber resting places last)
-  search-found = given permitted-exists (λ (i, p, e). search-ends resting places last i p e)
+  pub search_found : FirstPermitted resting places last (next_number resting places last)
+  search_found = given permitted_exists (λ (i, p, e). search_ends resting places last i p e)
 
   -- D-09: the search finds it
-  pub number-permitted : isPermitted resting places (nextNumber resting places last) ≡ true
+  pub number-permitted : is_permitted resting places (next_number resting places last) ≡ true
   number-permitted =
-      given search-found (λ found. subst (λ (n : ℕ). isPermitted resting places n ≡ true) (sym found.after) found.permitted)
+      given search_found (λ found. subst (λ (n : ℕ). is_permitted resting places n ≡ true) (sym found.after) found.permitted)
 
   -- D-10: a number from 1 to 255
-  pub number-range : (1 ≤ nextNumber resting places last) × (nextNumber resting places last ≤ 255)
-  number-range = given search-found (λ found. (omega (arith, found.after), omega (arith, found.after)))
+  pub number-range : (1 ≤ next_number resting places last) × (next_number resting places last ≤ 255)
+  number-range = given search_found (λ found. (omega (arith, found.after), omega (arith, found.after)))
 
   -- D-12: no live order has it, and it does not rest
-  pub number-idle : (i : ℕ) → i < slotCount → (placeAt places i).slot.number ≡ nextNumber resting places last → ⊥
+  pub number-idle : (i : ℕ) → i < slot_count → (place_at places i).slot.number ≡ next_number resting places last → ⊥
   number-idle i p e =
-      number-none places (nextNumber resting places last) i (permitted-only resting places (nextNumber resting places last) number-permitted).0 p e
+      number-none places (next_number resting places last) i (permitted-only resting places (next_number resting places last) number-permitted).0 p e
 
-  pub number-rested : resting (nextNumber resting places last) ≡ false
-  number-rested = (permitted-only resting places (nextNumber resting places last) number-permitted).1
+  pub number-rested : resting (next_number resting places last) ≡ false
+  number-rested = (permitted-only resting places (next_number resting places last) number-permitted).1

@@ -1,8 +1,8 @@
 // Which number a new order is given: the first permitted one after the last one given. A number is permitted if no live order has
 // it and it does not rest. How many steps a number rests is a figure that the desk hands in.
 ghost use Rattle.std.specs.Prelude.{◌≡◌, ◌<◌};
-ghost use Rattle.resting.specs.Rests.{isResting};
-ghost use Rattle.numbers.specs.Numbers.{hasNumber, isPermitted, numberAfter, nextNumber};
+ghost use Rattle.resting.specs.Rests.{is_resting};
+ghost use Rattle.numbers.specs.Numbers.{has_number, is_permitted, number_after, next_number};
 
 use condition::SLOTS;
 use places::Place;
@@ -13,7 +13,7 @@ const NUMBERS: u16 = 255;
 
 // Whether a live order has the number.
 fn has_number(places: [Place; 20], number: u8) -> bool
-    ensures { result ≡ hasNumber places number }
+    ensures { result ≡ has_number places number }
 {
     let mut i: usize = 0;
     while i < SLOTS {
@@ -26,7 +26,7 @@ fn has_number(places: [Place; 20], number: u8) -> bool
 }
 
 fn is_permitted(places: [Place; 20], ended: [Ended; 160], rest: u16, step: u16, number: u8) -> bool
-    ensures { result ≡ isPermitted (isResting rest step ended) places number }
+    ensures { result ≡ is_permitted (is_resting rest step ended) places number }
 {
     if has_number(places, number) {
         return false;
@@ -36,7 +36,7 @@ fn is_permitted(places: [Place; 20], ended: [Ended; 160], rest: u16, step: u16, 
 
 // The number that follows the last one given after so many others. 255 is followed by 1; 0 is never given.
 fn number_after(last: u8, others: u8) -> u8
-    ensures { result ≡ numberAfter last others }
+    ensures { result ≡ number_after last others }
 {
     ((last as u16 + others as u16) % NUMBERS + 1) as u8
 }
@@ -44,7 +44,7 @@ fn number_after(last: u8, others: u8) -> u8
 // The first permitted number after the last one given. There always is one, since twenty live numbers and 160 kept ones are
 // fewer than 255, so the loop ends at one.
 pub fn next_number(places: [Place; 20], ended: [Ended; 160], last: u8, rest: u16, step: u16) -> u8
-    ensures { result ≡ nextNumber (isResting rest step ended) places last }
+    ensures { result ≡ next_number (is_resting rest step ended) places last }
 {
     let mut others: u8 = 0;
     let mut number = number_after(last, others);

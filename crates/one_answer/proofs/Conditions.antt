@@ -10,55 +10,55 @@ use Rattle.telegram_writer.proofs as telegram-writer
 
 -- ---- kinds
 
-pub kinds-is-kind : OneAnswer kinds.is_kind.ended kinds.is_kind.Reads.Learnt
-kinds-is-kind κs handed answer other lasts others p q = (agree p q, refl)
+pub kinds-is_kind : OneAnswer kinds.is_kind.ended kinds.is_kind.Reads.Learnt
+kinds-is_kind κs handed answer other lasts others p q = (agree p q, refl)
 
-pub kinds-second-allowed : OneAnswer kinds.second_allowed.ended kinds.second_allowed.Reads.Learnt
-kinds-second-allowed κs handed answer other lasts others p q = (agree p q, refl)
+pub kinds-second_allowed : OneAnswer kinds.second_allowed.ended kinds.second_allowed.Reads.Learnt
+kinds-second_allowed κs handed answer other lasts others p q = (agree p q, refl)
 
-pub kinds-second-held : OneAnswer kinds.second_held.ended kinds.second_held.Reads.Learnt
-kinds-second-held κs handed answer other lasts others p q = (agree p q, refl)
+pub kinds-second_held : OneAnswer kinds.second_held.ended kinds.second_held.Reads.Learnt
+kinds-second_held κs handed answer other lasts others p q = (agree p q, refl)
 
 -- ---- condition
 
 pub condition-empty : OneAnswer condition.slots.Slot.empty.ended condition.slots.Slot.empty.Reads.Learnt
 condition-empty κs handed answer other lasts others p q = (agree p q, refl)
 
-pub condition-is-occupied : OneAnswer condition.slots.Slot.is_occupied.ended condition.slots.Slot.is_occupied.Reads.Learnt
-condition-is-occupied κs handed answer other lasts others p q = (agree p q, refl)
+pub condition-is_occupied : OneAnswer condition.slots.Slot.is_occupied.ended condition.slots.Slot.is_occupied.Reads.Learnt
+condition-is_occupied κs handed answer other lasts others p q = (agree p q, refl)
 
-pub condition-body-of : OneAnswer condition.body_of.ended condition.body_of.Reads.Learnt
-condition-body-of κs handed answer other lasts others p q = (agree p q, refl)
+pub condition-body_of : OneAnswer condition.body_of.ended condition.body_of.Reads.Learnt
+condition-body_of κs handed answer other lasts others p q = (agree p q, refl)
 
-pub condition-refusal-of : OneAnswer condition.refusal_of.ended condition.refusal_of.Reads.Learnt
-condition-refusal-of κs handed answer other lasts others p q = (agree p q, refl)
+pub condition-refusal_of : OneAnswer condition.refusal_of.ended condition.refusal_of.Reads.Learnt
+condition-refusal_of κs handed answer other lasts others p q = (agree p q, refl)
 
-pub condition-coded-of : OneAnswer condition.coded_of.ended condition.coded_of.Reads.Learnt
-condition-coded-of κs handed answer other lasts others p q = (agree p q, refl)
+pub condition-coded_of : OneAnswer condition.coded_of.ended condition.coded_of.Reads.Learnt
+condition-coded_of κs handed answer other lasts others p q = (agree p q, refl)
 
 -- ---- telegram
 
-pub telegram-slot-in : OneAnswer telegram.slot_in.ended telegram.slot_in.Reads.Learnt
-telegram-slot-in κs handed answer other lasts others p q = (agree p q, refl)
+pub telegram-slot_in : OneAnswer telegram.slot_in.ended telegram.slot_in.Reads.Learnt
+telegram-slot_in κs handed answer other lasts others p q = (agree p q, refl)
 
-pub telegram-first-slot : OneAnswer telegram.first_slot.ended telegram.first_slot.Reads.Learnt
-telegram-first-slot κs handed answer other lasts others p q = (agree p q, refl)
+pub telegram-first_slot : OneAnswer telegram.first_slot.ended telegram.first_slot.Reads.Learnt
+telegram-first_slot κs handed answer other lasts others p q = (agree p q, refl)
 
-pub telegram-four-of : OneAnswer telegram.four_of.ended telegram.four_of.Reads.Learnt
-telegram-four-of κs handed answer other lasts others p q = (agree p q, refl)
+pub telegram-four_of : OneAnswer telegram.four_of.ended telegram.four_of.Reads.Learnt
+telegram-four_of κs handed answer other lasts others p q = (agree p q, refl)
 
 -- ---- telegram_reader
 
-pub telegram-reader-refusal-of : OneAnswer telegram-reader.refusal_of.ended telegram-reader.refusal_of.Reads.Learnt
-telegram-reader-refusal-of κs handed answer other lasts others p q = (agree p q, refl)
+pub telegram_reader-refusal_of : OneAnswer telegram-reader.refusal_of.ended telegram-reader.refusal_of.Reads.Learnt
+telegram_reader-refusal_of κs handed answer other lasts others p q = (agree p q, refl)
 
-pub telegram-reader-place-slot : OneAnswer telegram-reader.place_slot.ended telegram-reader.place_slot.Reads.Learnt
-telegram-reader-place-slot κs handed answer other lasts others p q = (agree p q, refl)
+pub telegram_reader-place_slot : OneAnswer telegram-reader.place_slot.ended telegram-reader.place_slot.Reads.Learnt
+telegram_reader-place_slot κs handed answer other lasts others p q = (agree p q, refl)
 
-pub telegram-reader-read : OneAnswer telegram-reader.read.ended telegram-reader.read.Reads.Learnt
-telegram-reader-read κs handed answer other lasts others p q = (agree p q, refl)
+pub telegram_reader-read : OneAnswer telegram-reader.read.ended telegram-reader.read.Reads.Learnt
+telegram_reader-read κs handed answer other lasts others p q = (agree p q, refl)
 
 -- ---- telegram_writer
 
-pub telegram-writer-write : OneAnswer telegram-writer.write.ended telegram-writer.write.Reads.Learnt
-telegram-writer-write κs handed answer other lasts others p q = (agree p.0 q.0, ap (λ b. (tt, (b, tt))) (agree p.1 q.1))
+pub telegram_writer-write : OneAnswer telegram-writer.write.ended telegram-writer.write.Reads.Learnt
+telegram_writer-write κs handed answer other lasts others p q = (agree p.0 q.0, ap (λ b. (tt, (b, tt))) (agree p.1 q.1))

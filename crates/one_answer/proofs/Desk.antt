@@ -17,62 +17,62 @@ use Rattle.desk_runs.proofs as desk-runs
 
 -- ---- order_list
 
-pub order-list-order-at : OneAnswer order-list.order_at.ended order-list.order_at.Reads.Learnt
-order-list-order-at κs handed answer other lasts others p q = (agree p q, refl)
+pub order_list-order_at : OneAnswer order-list.order_at.ended order-list.order_at.Reads.Learnt
+order_list-order_at κs handed answer other lasts others p q = (agree p q, refl)
 
-pub order-list-listed-at : OneAnswer order-list.listed_at.ended order-list.listed_at.Reads.Learnt
-order-list-listed-at κs handed answer other lasts others p q = (agree p q, refl)
+pub order_list-listed_at : OneAnswer order-list.listed_at.ended order-list.listed_at.Reads.Learnt
+order_list-listed_at κs handed answer other lasts others p q = (agree p q, refl)
 
-pub order-list-numbers-of : OneAnswer order-list.numbers_of.ended order-list.numbers_of.Reads.Learnt
-order-list-numbers-of κs handed answer other lasts others p q = (agree p q, refl)
+pub order_list-numbers_of : OneAnswer order-list.numbers_of.ended order-list.numbers_of.Reads.Learnt
+order_list-numbers_of κs handed answer other lasts others p q = (agree p q, refl)
 
-pub order-list-found-at : OneAnswer order-list.found_at.ended order-list.found_at.Reads.Learnt
-order-list-found-at κs handed answer other lasts others p q = (agree p q, refl)
+pub order_list-found_at : OneAnswer order-list.found_at.ended order-list.found_at.Reads.Learnt
+order_list-found_at κs handed answer other lasts others p q = (agree p q, refl)
 
 -- ---- places
 
 pub places-free : OneAnswer places.Place.free.ended places.Place.free.Reads.Learnt
 places-free κs handed answer other lasts others p q = (agree p q, refl)
 
-pub places-orders-of : OneAnswer places.orders_of.ended places.orders_of.Reads.Learnt
-places-orders-of κs handed answer other lasts others p q = (agree p q, refl)
+pub places-orders_of : OneAnswer places.orders_of.ended places.orders_of.Reads.Learnt
+places-orders_of κs handed answer other lasts others p q = (agree p q, refl)
 
-pub places-place-of : OneAnswer places.place_of.ended places.place_of.Reads.Learnt
-places-place-of κs handed answer other lasts others p q = (agree p q, refl)
+pub places-place_of : OneAnswer places.place_of.ended places.place_of.Reads.Learnt
+places-place_of κs handed answer other lasts others p q = (agree p q, refl)
 
 -- ---- orders
 
-pub orders-refusal-of : OneAnswer orders.refusal_of.ended orders.refusal_of.Reads.Learnt
-orders-refusal-of κs handed answer other lasts others p q = (agree p q, refl)
+pub orders_refusal-of : OneAnswer orders.refusal_of.ended orders.refusal_of.Reads.Learnt
+orders_refusal-of κs handed answer other lasts others p q = (agree p q, refl)
 
 -- ---- resting
 
 pub resting-none : OneAnswer resting.Ended.none.ended resting.Ended.none.Reads.Learnt
 resting-none κs handed answer other lasts others p q = (agree p q, refl)
 
-pub resting-is-resting : OneAnswer resting.is_resting.ended resting.is_resting.Reads.Learnt
-resting-is-resting κs handed answer other lasts others p q = (agree p q, refl)
+pub resting-is_resting : OneAnswer resting.is_resting.ended resting.is_resting.Reads.Learnt
+resting-is_resting κs handed answer other lasts others p q = (agree p q, refl)
 
 -- ---- numbers
 
-pub numbers-next-number : OneAnswer numbers.next_number.ended numbers.next_number.Reads.Learnt
-numbers-next-number κs handed answer other lasts others p q = (agree p q, refl)
+pub numbers-next_number : OneAnswer numbers.next_number.ended numbers.next_number.Reads.Learnt
+numbers-next_number κs handed answer other lasts others p q = (agree p q, refl)
 
 -- ---- leaving
 
 pub leaving-leave : OneAnswer leaving.leave.ended leaving.leave.Reads.Learnt
 leaving-leave κs handed answer other lasts others p q = (agree p q, refl)
 
-pub leaving-kept-places : OneAnswer leaving.kept_places.ended leaving.kept_places.Reads.Learnt
-leaving-kept-places κs handed answer other lasts others p q = (agree p q, refl)
+pub leaving-kept_places : OneAnswer leaving.kept_places.ended leaving.kept_places.Reads.Learnt
+leaving-kept_places κs handed answer other lasts others p q = (agree p q, refl)
 
-pub leaving-ended-numbers : OneAnswer leaving.ended_numbers.ended leaving.ended_numbers.Reads.Learnt
-leaving-ended-numbers κs handed answer other lasts others p q = (agree p q, refl)
+pub leaving-ended_numbers : OneAnswer leaving.ended_numbers.ended leaving.ended_numbers.Reads.Learnt
+leaving-ended_numbers κs handed answer other lasts others p q = (agree p q, refl)
 
 -- ---- arriving
 
-pub arriving-seat-all : OneAnswer arriving.seat_all.ended arriving.seat_all.Reads.Learnt
-arriving-seat-all κs handed answer other lasts others p q = (agree p q, refl)
+pub arriving-seat_all : OneAnswer arriving.seat_all.ended arriving.seat_all.Reads.Learnt
+arriving-seat_all κs handed answer other lasts others p q = (agree p q, refl)
 
 -- ---- desk
 
@@ -84,30 +84,30 @@ desk-accept κs handed answer other lasts others p q = (agree p q, refl)
 
 -- ---- desk_writer
 
-pub desk-writer-table-of : OneAnswer desk-writer.table_of.ended desk-writer.table_of.Reads.Learnt
-desk-writer-table-of κs handed answer other lasts others p q = (agree p q, refl)
+pub desk_writer-table_of : OneAnswer desk-writer.table_of.ended desk-writer.table_of.Reads.Learnt
+desk_writer-table_of κs handed answer other lasts others p q = (agree p q, refl)
 
-pub desk-writer-write : OneAnswer desk-writer.write.ended desk-writer.write.Reads.Learnt
-desk-writer-write κs handed answer other lasts others p q = (agree p.0 q.0, ap (λ b. (tt, (tt, (b, tt)))) (agree p.1 q.1))
+pub desk_writer-write : OneAnswer desk-writer.write.ended desk-writer.write.Reads.Learnt
+desk_writer-write κs handed answer other lasts others p q = (agree p.0 q.0, ap (λ b. (tt, (tt, (b, tt)))) (agree p.1 q.1))
 
 -- ---- desk_output
 
-pub desk-output-put-table : OneAnswer desk-output.put_table.ended desk-output.put_table.Reads.Learnt
-desk-output-put-table κs handed answer other lasts others p q = given (agree-poured p q) (λ (place, bytes). (place, ap (λ b. (tt, (b, (tt, tt)))) bytes))
+pub desk_output-put_table : OneAnswer desk-output.put_table.ended desk-output.put_table.Reads.Learnt
+desk_output-put_table κs handed answer other lasts others p q = given (agree-poured p q) (λ (place, bytes). (place, ap (λ b. (tt, (b, (tt, tt)))) bytes))
 
-pub desk-output-put-refused : OneAnswer desk-output.put_refused.ended desk-output.put_refused.Reads.Learnt
-desk-output-put-refused κs handed answer other lasts others p q = given (agree-poured p q) (λ (place, bytes). (place, ap (λ b. (tt, (tt, (b, (tt, tt))))) bytes))
+pub desk_output-put_refused : OneAnswer desk-output.put_refused.ended desk-output.put_refused.Reads.Learnt
+desk_output-put_refused κs handed answer other lasts others p q = given (agree-poured p q) (λ (place, bytes). (place, ap (λ b. (tt, (tt, (b, (tt, tt))))) bytes))
 
-pub desk-output-put-short : OneAnswer desk-output.put_short.ended desk-output.put_short.Reads.Learnt
-desk-output-put-short κs handed answer other lasts others p q = given (agree-poured p q) (λ (place, bytes). (place, ap (λ b. (b, (tt, tt))) bytes))
+pub desk_output-put_short : OneAnswer desk-output.put_short.ended desk-output.put_short.Reads.Learnt
+desk_output-put_short κs handed answer other lasts others p q = given (agree-poured p q) (λ (place, bytes). (place, ap (λ b. (b, (tt, tt))) bytes))
 
 -- ---- desk_runs
 
-pub desk-runs-run : OneAnswer desk-runs.run.ended desk-runs.run.Reads.Learnt
-desk-runs-run κs handed answer other lasts others p q =
+pub desk_runs-run : OneAnswer desk-runs.run.ended desk-runs.run.Reads.Learnt
+desk_runs-run κs handed answer other lasts others p q =
     let tables = agree-poured p.0 q.0 in
     let lines = agree-poured p.1 q.1 in
     ((λ i. record { tables = tables.0 i; lines = lines.0 i }), (λ i. (tt, (tables.1 i, (lines.1 i, tt)))))
 
-pub desk-runs-desk-after : OneAnswer desk-runs.desk_after.ended desk-runs.desk_after.Reads.Learnt
-desk-runs-desk-after κs handed answer other lasts others p q = (agree p q, refl)
+pub desk_runs-desk_after : OneAnswer desk-runs.desk_after.ended desk-runs.desk_after.Reads.Learnt
+desk_runs-desk_after κs handed answer other lasts others p q = (agree p q, refl)

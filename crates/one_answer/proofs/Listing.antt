@@ -17,35 +17,35 @@ use Rattle.exports.proofs as exports
 
 -- ---- listing_words
 
-pub listing-words-put-number : OneAnswer listing-words.put_number.ended listing-words.put_number.Reads.Learnt
-listing-words-put-number κs handed answer other lasts others p q = given (agree-poured p q) (λ (place, bytes). (place, ap (λ b. (tt, (tt, (b, (tt, tt))))) bytes))
+pub listing_words-put_number : OneAnswer listing-words.put_number.ended listing-words.put_number.Reads.Learnt
+listing_words-put_number κs handed answer other lasts others p q = given (agree-poured p q) (λ (place, bytes). (place, ap (λ b. (tt, (tt, (b, (tt, tt))))) bytes))
 
 -- ---- listing_lines
 
-pub listing-lines-put-header : OneAnswer listing-lines.put_header.ended listing-lines.put_header.Reads.Learnt
-listing-lines-put-header κs handed answer other lasts others p q = given (agree-poured p q) (λ (place, bytes). (place, ap (λ b. (b, (tt, tt))) bytes))
+pub listing_lines-put_header : OneAnswer listing-lines.put_header.ended listing-lines.put_header.Reads.Learnt
+listing_lines-put_header κs handed answer other lasts others p q = given (agree-poured p q) (λ (place, bytes). (place, ap (λ b. (b, (tt, tt))) bytes))
 
-pub listing-lines-put-refused : OneAnswer listing-lines.put_refused.ended listing-lines.put_refused.Reads.Learnt
-listing-lines-put-refused κs handed answer other lasts others p q = given (agree-poured p q) (λ (place, bytes). (place, ap (λ b. (tt, (b, (tt, tt)))) bytes))
+pub listing_lines-put_refused : OneAnswer listing-lines.put_refused.ended listing-lines.put_refused.Reads.Learnt
+listing_lines-put_refused κs handed answer other lasts others p q = given (agree-poured p q) (λ (place, bytes). (place, ap (λ b. (tt, (b, (tt, tt)))) bytes))
 
-pub listing-lines-put-end : OneAnswer listing-lines.put_end.ended listing-lines.put_end.Reads.Learnt
-listing-lines-put-end κs handed answer other lasts others p q = given (agree-poured p q) (λ (place, bytes). (place, ap (λ b. (tt, (b, (tt, tt)))) bytes))
+pub listing_lines-put_end : OneAnswer listing-lines.put_end.ended listing-lines.put_end.Reads.Learnt
+listing_lines-put_end κs handed answer other lasts others p q = given (agree-poured p q) (λ (place, bytes). (place, ap (λ b. (tt, (b, (tt, tt)))) bytes))
 
 -- ---- listing_reader
 
-pub listing-reader-word-of : OneAnswer listing-reader.word_of.ended listing-reader.word_of.Reads.Learnt
-listing-reader-word-of κs handed answer other lasts others p q = (agree p q, refl)
+pub listing_reader-word_of : OneAnswer listing-reader.word_of.ended listing-reader.word_of.Reads.Learnt
+listing_reader-word_of κs handed answer other lasts others p q = (agree p q, refl)
 
-pub listing-reader-code-of : OneAnswer listing-reader.code_of.ended listing-reader.code_of.Reads.Learnt
-listing-reader-code-of κs handed answer other lasts others p q = (agree p q, refl)
+pub listing_reader-code_of : OneAnswer listing-reader.code_of.ended listing-reader.code_of.Reads.Learnt
+listing_reader-code_of κs handed answer other lasts others p q = (agree p q, refl)
 
 -- ---- listing_tables
 
-pub listing-tables-put-heard : OneAnswer listing-tables.put_heard.ended listing-tables.put_heard.Reads.Learnt
-listing-tables-put-heard κs handed answer other lasts others p q = given (agree-poured p q) (λ (place, bytes). (place, ap (λ b. (tt, (tt, (b, (tt, tt))))) bytes))
+pub listing_tables-put_heard : OneAnswer listing-tables.put_heard.ended listing-tables.put_heard.Reads.Learnt
+listing_tables-put_heard κs handed answer other lasts others p q = given (agree-poured p q) (λ (place, bytes). (place, ap (λ b. (tt, (tt, (b, (tt, tt))))) bytes))
 
-pub listing-tables-tables-of : OneAnswer listing-tables.tables_of.ended listing-tables.tables_of.Reads.Learnt
-listing-tables-tables-of κs handed answer other lasts others p q = (agree p q, refl)
+pub listing_tables-tables_of : OneAnswer listing-tables.tables_of.ended listing-tables.tables_of.Reads.Learnt
+listing_tables-tables_of κs handed answer other lasts others p q = (agree p q, refl)
 
 -- ---- lister
 
@@ -59,13 +59,13 @@ lister-take κs handed answer other lasts others p q =
     ((λ i. record { lister = next i; at = put.0 i }), ap (λ bytes. (tt, (tt, (bytes, (tt, tt))))) put.1)
 
 -- the contract of `listener::hear_in`, word for word
-pub lister-hear-in : OneAnswer lister.hear_in.ended lister.hear_in.Reads.Learnt
-lister-hear-in = demand1.telegrams-lent.defined
+pub lister-hear_in : OneAnswer lister.hear_in.ended lister.hear_in.Reads.Learnt
+lister-hear_in = demand1.telegrams-lent.defined
 
 -- ---- hearing_runs
 
-pub hearing-runs-hear : OneAnswer hearing-runs.hear.ended hearing-runs.hear.Reads.Learnt
-hearing-runs-hear κs handed answer other lasts others p q = given (agree-poured p q) (λ (place, bytes). (place, ap (λ b. (tt, (b, tt))) bytes))
+pub hearing_runs-hear : OneAnswer hearing-runs.hear.ended hearing-runs.hear.Reads.Learnt
+hearing_runs-hear κs handed answer other lasts others p q = given (agree-poured p q) (λ (place, bytes). (place, ap (λ b. (tt, (b, tt))) bytes))
 
 -- ---- listing
 
@@ -91,31 +91,31 @@ summary-put κs handed answer other lasts others p q = given (agree-poured p q) 
 
 -- ---- listing_length
 
-pub listing-length-length-of : OneAnswer listing-length.length_of.ended listing-length.length_of.Reads.Learnt
-listing-length-length-of κs handed answer other lasts others p q = (agree p q, refl)
+pub listing_length-length_of : OneAnswer listing-length.length_of.ended listing-length.length_of.Reads.Learnt
+listing_length-length_of κs handed answer other lasts others p q = (agree p q, refl)
 
 -- ---- exports
 
-pub exports-bravolith-list : OneAnswer exports.bravolith_list.ended exports.bravolith_list.Reads.Learnt
-exports-bravolith-list κs handed answer other lasts others p q = given (agree-poured p q) (λ (place, bytes). (place, ap (λ b. (tt, (b, tt))) bytes))
+pub exports-bravolith_list : OneAnswer exports.bravolith_list.ended exports.bravolith_list.Reads.Learnt
+exports-bravolith_list κs handed answer other lasts others p q = given (agree-poured p q) (λ (place, bytes). (place, ap (λ b. (tt, (b, tt))) bytes))
 
-pub exports-bravolith-list-length : OneAnswer exports.bravolith_list_length.ended exports.bravolith_list_length.Reads.Learnt
-exports-bravolith-list-length κs handed answer other lasts others p q = (agree p q, refl)
+pub exports-bravolith_list_length : OneAnswer exports.bravolith_list_length.ended exports.bravolith_list_length.Reads.Learnt
+exports-bravolith_list_length κs handed answer other lasts others p q = (agree p q, refl)
 
-pub exports-bravolith-hear : OneAnswer exports.bravolith_hear.ended exports.bravolith_hear.Reads.Learnt
-exports-bravolith-hear κs handed answer other lasts others p q = given (agree-poured p q) (λ (place, bytes). (place, ap (λ b. (tt, (b, tt))) bytes))
+pub exports-bravolith_hear : OneAnswer exports.bravolith_hear.ended exports.bravolith_hear.Reads.Learnt
+exports-bravolith_hear κs handed answer other lasts others p q = given (agree-poured p q) (λ (place, bytes). (place, ap (λ b. (tt, (b, tt))) bytes))
 
-pub exports-bravolith-run : OneAnswer exports.bravolith_run.ended exports.bravolith_run.Reads.Learnt
-exports-bravolith-run κs handed answer other lasts others p q = given (agree-poured p q) (λ (place, bytes). (place, ap (λ b. (tt, (b, tt))) bytes))
+pub exports-bravolith_run : OneAnswer exports.bravolith_run.ended exports.bravolith_run.Reads.Learnt
+exports-bravolith_run κs handed answer other lasts others p q = given (agree-poured p q) (λ (place, bytes). (place, ap (λ b. (tt, (b, tt))) bytes))
 
-pub exports-bravolith-run-lines : OneAnswer exports.bravolith_run_lines.ended exports.bravolith_run_lines.Reads.Learnt
-exports-bravolith-run-lines κs handed answer other lasts others p q = given (agree-poured p q) (λ (place, bytes). (place, ap (λ b. (tt, (b, tt))) bytes))
+pub exports-bravolith_run_lines : OneAnswer exports.bravolith_run_lines.ended exports.bravolith_run_lines.Reads.Learnt
+exports-bravolith_run_lines κs handed answer other lasts others p q = given (agree-poured p q) (λ (place, bytes). (place, ap (λ b. (tt, (b, tt))) bytes))
 
-pub exports-bravolith-write : OneAnswer exports.bravolith_write.ended exports.bravolith_write.Reads.Learnt
-exports-bravolith-write κs handed answer other lasts others p q = (agree p.0 q.0, ap (λ b. (tt, (tt, (b, tt)))) (agree p.1 q.1))
+pub exports-bravolith_write : OneAnswer exports.bravolith_write.ended exports.bravolith_write.Reads.Learnt
+exports-bravolith_write κs handed answer other lasts others p q = (agree p.0 q.0, ap (λ b. (tt, (tt, (b, tt)))) (agree p.1 q.1))
 
-pub exports-bravolith-signals : OneAnswer exports.bravolith_signals.ended exports.bravolith_signals.Reads.Learnt
-exports-bravolith-signals κs handed answer other lasts others p q = given (agree-poured p q) (λ (place, bytes). (place, ap (λ b. (tt, (b, tt))) bytes))
+pub exports-bravolith_signals : OneAnswer exports.bravolith_signals.ended exports.bravolith_signals.Reads.Learnt
+exports-bravolith_signals κs handed answer other lasts others p q = given (agree-poured p q) (λ (place, bytes). (place, ap (λ b. (tt, (b, tt))) bytes))
 
-pub exports-bravolith-word : OneAnswer exports.bravolith_word.ended exports.bravolith_word.Reads.Learnt
-exports-bravolith-word κs handed answer other lasts others p q = (agree p q, refl)
+pub exports-bravolith_word : OneAnswer exports.bravolith_word.ended exports.bravolith_word.Reads.Learnt
+exports-bravolith_word κs handed answer other lasts others p q = (agree p q, refl)

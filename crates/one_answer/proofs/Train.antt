@@ -8,32 +8,32 @@ use Rattle.claims.proofs.Demand1.{demand1}
 use Rattle.train_codes.proofs as train-codes
 use Rattle.train_telegram.proofs as train-telegram
 use Rattle.signals.proofs as signals
-use Rattle.signals.proofs.Answers.{updating-apart}
+use Rattle.signals.proofs.Answers.{updating_apart}
 use Rattle.signals_in_place.proofs as signals-in-place
 use Rattle.signals_output.proofs as signals-output
 use Rattle.signal_runs.proofs as signal-runs
 
 -- ---- train_codes
 
-pub train-codes-cab-of : OneAnswer train-codes.cab_of.ended train-codes.cab_of.Reads.Learnt
-train-codes-cab-of κs handed answer other lasts others p q = (agree p q, refl)
+pub train_codes-cab_of : OneAnswer train-codes.cab_of.ended train-codes.cab_of.Reads.Learnt
+train_codes-cab_of κs handed answer other lasts others p q = (agree p q, refl)
 
-pub train-codes-brake-of : OneAnswer train-codes.brake_of.ended train-codes.brake_of.Reads.Learnt
-train-codes-brake-of κs handed answer other lasts others p q = (agree p q, refl)
+pub train_codes-brake_of : OneAnswer train-codes.brake_of.ended train-codes.brake_of.Reads.Learnt
+train_codes-brake_of κs handed answer other lasts others p q = (agree p q, refl)
 
-pub train-codes-isolation-of : OneAnswer train-codes.isolation_of.ended train-codes.isolation_of.Reads.Learnt
-train-codes-isolation-of κs handed answer other lasts others p q = (agree p q, refl)
+pub train_codes-isolation_of : OneAnswer train-codes.isolation_of.ended train-codes.isolation_of.Reads.Learnt
+train_codes-isolation_of κs handed answer other lasts others p q = (agree p q, refl)
 
-pub train-codes-refusal-of : OneAnswer train-codes.refusal_of.ended train-codes.refusal_of.Reads.Learnt
-train-codes-refusal-of κs handed answer other lasts others p q = (agree p q, refl)
+pub train_codes-refusal_of : OneAnswer train-codes.refusal_of.ended train-codes.refusal_of.Reads.Learnt
+train_codes-refusal_of κs handed answer other lasts others p q = (agree p q, refl)
 
 -- ---- train_telegram
 
-pub train-telegram-read : OneAnswer train-telegram.read.ended train-telegram.read.Reads.Learnt
-train-telegram-read κs handed answer other lasts others p q = (agree p q, refl)
+pub train_telegram-read : OneAnswer train-telegram.read.ended train-telegram.read.Reads.Learnt
+train_telegram-read κs handed answer other lasts others p q = (agree p q, refl)
 
-pub train-telegram-silent : OneAnswer train-telegram.states.States.silent.ended train-telegram.states.States.silent.Reads.Learnt
-train-telegram-silent κs handed answer other lasts others p q = (agree p q, refl)
+pub train_telegram-silent : OneAnswer train-telegram.states.States.silent.ended train-telegram.states.States.silent.Reads.Learnt
+train_telegram-silent κs handed answer other lasts others p q = (agree p q, refl)
 
 -- ---- signals
 
@@ -41,25 +41,25 @@ pub signals-fresh : OneAnswer signals.Signals.fresh.ended signals.Signals.fresh.
 signals-fresh κs handed answer other lasts others p q = (agree p q, refl)
 
 pub signals-update : OneAnswer signals.Signals.update.ended signals.Signals.update.Reads.Learnt
-signals-update κs handed answer other lasts others p q = (updating-apart answer other (agree p q), refl)
+signals-update κs handed answer other lasts others p q = (updating_apart answer other (agree p q), refl)
 
 -- ---- signals_in_place
 
-pub signals-in-place-update : Asserted.OneAnswerLent signals-in-place.update.ended (λ M 𝓤. signals-in-place.update.clauses 𝓤)
-signals-in-place-update = demand1.train-lent.defined
+pub signals_in_place-update : Asserted.OneAnswerLent signals-in-place.update.ended (λ M 𝓤. signals-in-place.update.clauses 𝓤)
+signals_in_place-update = demand1.train-lent.defined
 
-pub signals-in-place-lend-and-update : OneAnswer signals-in-place.lend_and_update.ended signals-in-place.lend_and_update.Reads.Learnt
-signals-in-place-lend-and-update κs handed answer other lasts others p q = (updating-apart answer other (agree p q), refl)
+pub signals_in_place-lend_and_update : OneAnswer signals-in-place.lend_and_update.ended signals-in-place.lend_and_update.Reads.Learnt
+signals_in_place-lend_and_update κs handed answer other lasts others p q = (updating_apart answer other (agree p q), refl)
 
 -- ---- signals_output
 
-pub signals-output-put-line : OneAnswer signals-output.put_line.ended signals-output.put_line.Reads.Learnt
-signals-output-put-line κs handed answer other lasts others p q = given (agree-poured p q) (λ (place, bytes). (place, ap (λ b. (tt, (b, (tt, tt)))) bytes))
+pub signals_output-put_line : OneAnswer signals-output.put_line.ended signals-output.put_line.Reads.Learnt
+signals_output-put_line κs handed answer other lasts others p q = given (agree-poured p q) (λ (place, bytes). (place, ap (λ b. (tt, (b, (tt, tt)))) bytes))
 
-pub signals-output-put-short : OneAnswer signals-output.put_short.ended signals-output.put_short.Reads.Learnt
-signals-output-put-short κs handed answer other lasts others p q = given (agree-poured p q) (λ (place, bytes). (place, ap (λ b. (b, (tt, tt))) bytes))
+pub signals_output-put_short : OneAnswer signals-output.put_short.ended signals-output.put_short.Reads.Learnt
+signals_output-put_short κs handed answer other lasts others p q = given (agree-poured p q) (λ (place, bytes). (place, ap (λ b. (b, (tt, tt))) bytes))
 
 -- ---- signal_runs
 
-pub signal-runs-read : OneAnswer signal-runs.read.ended signal-runs.read.Reads.Learnt
-signal-runs-read κs handed answer other lasts others p q = given (agree-poured p q) (λ (place, bytes). (place, ap (λ b. (tt, (b, tt))) bytes))
+pub signal_runs-read : OneAnswer signal-runs.read.ended signal-runs.read.Reads.Learnt
+signal_runs-read κs handed answer other lasts others p q = given (agree-poured p q) (λ (place, bytes). (place, ap (λ b. (tt, (b, tt))) bytes))

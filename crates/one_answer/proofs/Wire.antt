@@ -6,7 +6,7 @@ use Rattle.kit.proofs.Contracts.{agree, agree-poured}
 use Rattle.wire.proofs as wire
 use Rattle.text.proofs as text
 use Rattle.page.proofs as page
-use Rattle.page.proofs.Pages.{agree-laid}
+use Rattle.page.proofs.Pages.{agree_laid}
 use Rattle.frames.proofs as frames
 
 -- ---- wire
@@ -14,17 +14,17 @@ use Rattle.frames.proofs as frames
 pub wire-word : OneAnswer wire.word.ended wire.word.Reads.Learnt
 wire-word κs handed answer other lasts others p q = (agree p q, refl)
 
-pub wire-byte-at : OneAnswer wire.byte_at.ended wire.byte_at.Reads.Learnt
-wire-byte-at κs handed answer other lasts others p q = (agree p q, refl)
+pub wire-byte_at : OneAnswer wire.byte_at.ended wire.byte_at.Reads.Learnt
+wire-byte_at κs handed answer other lasts others p q = (agree p q, refl)
 
-pub wire-word-at : OneAnswer wire.word_at.ended wire.word_at.Reads.Learnt
-wire-word-at κs handed answer other lasts others p q = (agree p q, refl)
+pub wire-word_at : OneAnswer wire.word_at.ended wire.word_at.Reads.Learnt
+wire-word_at κs handed answer other lasts others p q = (agree p q, refl)
 
-pub wire-long-at : OneAnswer wire.long_at.ended wire.long_at.Reads.Learnt
-wire-long-at κs handed answer other lasts others p q = (agree p q, refl)
+pub wire-long_at : OneAnswer wire.long_at.ended wire.long_at.Reads.Learnt
+wire-long_at κs handed answer other lasts others p q = (agree p q, refl)
 
-pub wire-distance-of : OneAnswer wire.distance_of.ended wire.distance_of.Reads.Learnt
-wire-distance-of κs handed answer other lasts others p q = (agree p q, refl)
+pub wire-distance_of : OneAnswer wire.distance_of.ended wire.distance_of.Reads.Learnt
+wire-distance_of κs handed answer other lasts others p q = (agree p q, refl)
 
 pub wire-gap : OneAnswer wire.gap.ended wire.gap.Reads.Learnt
 wire-gap κs handed answer other lasts others p q = (agree p q, refl)
@@ -34,45 +34,45 @@ wire-above κs handed answer other lasts others p q = (agree p q, refl)
 
 -- ---- text
 
-pub text-put-byte : OneAnswer text.put_byte.ended text.put_byte.Reads.Learnt
-text-put-byte κs handed answer other lasts others p q = given (agree-poured p q) (λ (place, bytes). (place, ap (λ b. (b, (tt, (tt, tt)))) bytes))
+pub text-put_byte : OneAnswer text.put_byte.ended text.put_byte.Reads.Learnt
+text-put_byte κs handed answer other lasts others p q = given (agree-poured p q) (λ (place, bytes). (place, ap (λ b. (b, (tt, (tt, tt)))) bytes))
 
-pub text-put-words : OneAnswer text.put_words.ended text.put_words.Reads.Learnt
-text-put-words κs handed answer other lasts others p q = given (agree-poured p q) (λ (place, bytes). (place, ap (λ b. (b, (tt, (tt, tt)))) bytes))
+pub text-put_words : OneAnswer text.put_words.ended text.put_words.Reads.Learnt
+text-put_words κs handed answer other lasts others p q = given (agree-poured p q) (λ (place, bytes). (place, ap (λ b. (b, (tt, (tt, tt)))) bytes))
 
-pub text-put-decimal : OneAnswer text.put_decimal.ended text.put_decimal.Reads.Learnt
-text-put-decimal κs handed answer other lasts others p q = given (agree-poured p q) (λ (place, bytes). (place, ap (λ b. (b, (tt, (tt, tt)))) bytes))
+pub text-put_decimal : OneAnswer text.put_decimal.ended text.put_decimal.Reads.Learnt
+text-put_decimal κs handed answer other lasts others p q = given (agree-poured p q) (λ (place, bytes). (place, ap (λ b. (b, (tt, (tt, tt)))) bytes))
 
 -- ---- page
 
-pub page-put-byte-if : OneAnswer page.put_byte_if.ended page.put_byte_if.Reads.Learnt
-page-put-byte-if κs handed answer other lasts others p q = given (agree-laid p q) (λ (place, bytes). (place, ap (λ b. (b, (tt, (tt, (tt, tt))))) bytes))
+pub page-put_byte_if : OneAnswer page.put_byte_if.ended page.put_byte_if.Reads.Learnt
+page-put_byte_if κs handed answer other lasts others p q = given (agree_laid p q) (λ (place, bytes). (place, ap (λ b. (b, (tt, (tt, (tt, tt))))) bytes))
 
-pub page-put-byte : OneAnswer page.put_byte.ended page.put_byte.Reads.Learnt
-page-put-byte κs handed answer other lasts others p q = given (agree-laid p q) (λ (place, bytes). (place, ap (λ b. (b, (tt, (tt, tt)))) bytes))
+pub page-put_byte : OneAnswer page.put_byte.ended page.put_byte.Reads.Learnt
+page-put_byte κs handed answer other lasts others p q = given (agree_laid p q) (λ (place, bytes). (place, ap (λ b. (b, (tt, (tt, tt)))) bytes))
 
-pub page-put-number : OneAnswer page.put_number.ended page.put_number.Reads.Learnt
-page-put-number κs handed answer other lasts others p q = given (agree-laid p q) (λ (place, bytes). (place, ap (λ b. (b, (tt, (tt, (tt, tt))))) bytes))
+pub page-put_number : OneAnswer page.put_number.ended page.put_number.Reads.Learnt
+page-put_number κs handed answer other lasts others p q = given (agree_laid p q) (λ (place, bytes). (place, ap (λ b. (b, (tt, (tt, (tt, tt))))) bytes))
 
-pub page-put-short-number : OneAnswer page.put_short_number.ended page.put_short_number.Reads.Learnt
-page-put-short-number κs handed answer other lasts others p q = given (agree-laid p q) (λ (place, bytes). (place, ap (λ b. (b, (tt, (tt, (tt, tt))))) bytes))
+pub page-put_short_number : OneAnswer page.put_short_number.ended page.put_short_number.Reads.Learnt
+page-put_short_number κs handed answer other lasts others p q = given (agree_laid p q) (λ (place, bytes). (place, ap (λ b. (b, (tt, (tt, (tt, tt))))) bytes))
 
-pub page-put-bare-number : OneAnswer page.put_bare_number.ended page.put_bare_number.Reads.Learnt
-page-put-bare-number κs handed answer other lasts others p q = given (agree-laid p q) (λ (place, bytes). (place, ap (λ b. (b, (tt, (tt, tt)))) bytes))
+pub page-put_bare_number : OneAnswer page.put_bare_number.ended page.put_bare_number.Reads.Learnt
+page-put_bare_number κs handed answer other lasts others p q = given (agree_laid p q) (λ (place, bytes). (place, ap (λ b. (b, (tt, (tt, tt)))) bytes))
 
-pub page-put-short-text : OneAnswer page.put_short_text.ended page.put_short_text.Reads.Learnt
-page-put-short-text κs handed answer other lasts others p q = given (agree-laid p q) (λ (place, bytes). (place, ap (λ b. (b, (tt, (tt, tt)))) bytes))
+pub page-put_short_text : OneAnswer page.put_short_text.ended page.put_short_text.Reads.Learnt
+page-put_short_text κs handed answer other lasts others p q = given (agree_laid p q) (λ (place, bytes). (place, ap (λ b. (b, (tt, (tt, tt)))) bytes))
 
-pub page-put-word : OneAnswer page.put_word.ended page.put_word.Reads.Learnt
-page-put-word κs handed answer other lasts others p q = given (agree-laid p q) (λ (place, bytes). (place, ap (λ b. (b, (tt, (tt, tt)))) bytes))
+pub page-put_word : OneAnswer page.put_word.ended page.put_word.Reads.Learnt
+page-put_word κs handed answer other lasts others p q = given (agree_laid p q) (λ (place, bytes). (place, ap (λ b. (b, (tt, (tt, tt)))) bytes))
 
-pub page-put-hexadecimal : OneAnswer page.put_hexadecimal.ended page.put_hexadecimal.Reads.Learnt
-page-put-hexadecimal κs handed answer other lasts others p q = given (agree-laid p q) (λ (place, bytes). (place, ap (λ b. (b, (tt, (tt, tt)))) bytes))
+pub page-put_hexadecimal : OneAnswer page.put_hexadecimal.ended page.put_hexadecimal.Reads.Learnt
+page-put_hexadecimal κs handed answer other lasts others p q = given (agree_laid p q) (λ (place, bytes). (place, ap (λ b. (b, (tt, (tt, tt)))) bytes))
 
-pub page-word-of : OneAnswer page.word_of.ended page.word_of.Reads.Learnt
-page-word-of κs handed answer other lasts others p q = (agree p q, refl)
+pub page-word_of : OneAnswer page.word_of.ended page.word_of.Reads.Learnt
+page-word_of κs handed answer other lasts others p q = (agree p q, refl)
 
 -- ---- frames
 
-pub frames-call-size : OneAnswer frames.call_size.ended frames.call_size.Reads.Learnt
-frames-call-size κs handed answer other lasts others p q = (agree p q, refl)
+pub frames-call_size : OneAnswer frames.call_size.ended frames.call_size.Reads.Learnt
+frames-call_size κs handed answer other lasts others p q = (agree p q, refl)

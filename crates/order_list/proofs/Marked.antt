@@ -28,10 +28,10 @@ module _ (test : ℕ → Bool) where
   unfolding marked
   marked-end n bit k p = let left : n - k ≡ 0 = omega arith in rw left refl
 
-  pub marked-least : (bit k n : ℕ) → bit ≤ marked test bit k n
+  pub marked_least : (bit k n : ℕ) → bit ≤ marked test bit k n
   unfolding marked
-  marked-least bit k zero = omega arith
-  marked-least bit k (suc n) = omega (arith, marked-least (bit * 2) (k + 1) n)
+  marked_least bit k zero = omega arith
+  marked_least bit k (suc n) = omega (arith, marked_least (bit * 2) (k + 1) n)
 
   pub marked-most : (bit k n : ℕ) → marked test bit k n ≤ most bit n
   unfolding marked most

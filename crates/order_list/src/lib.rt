@@ -1,6 +1,6 @@
 // The list of orders that a desk is given: any bytes of any length, ten for each order.
 ghost use Rattle.std.specs.Prelude.{◌≡◌, cond, eqb};
-ghost use Rattle.order_list.specs.Lists.{order_at, listed_at, numbersOf, foundAt};
+ghost use Rattle.order_list.specs.Lists.{order_at, listed_at, numbers_of, found_at};
 
 // How many bytes an order has.
 pub const LENGTH: usize = 10;
@@ -48,7 +48,7 @@ pub fn listed_at(list: &[u8], n: u8, number: u32) -> u8
 
 // The order numbers of the first twenty orders of a list; 0 past its end.
 pub fn numbers_of(list: &[u8]) -> [u32; 20]
-    ensures { result ≡ numbersOf list.now }
+    ensures { result ≡ numbers_of list.now }
 {
     let mut numbers = [0u32; 20];
     let mut j: u8 = 0;
@@ -73,7 +73,7 @@ fn bit_where(found: u32, number: u32, bit: u32) -> u32
 // Which of twenty order numbers this is, the lowest, or 20 where it is none of them. All twenty are looked at, one bit for each that is
 // the number: a machine compares several at once, and there is no branch to guess wrong. The bit past them stands for none.
 pub fn found_at(numbers: &[u32; 20], number: u32) -> usize
-    ensures { result ≡ foundAt numbers.now number }
+    ensures { result ≡ found_at numbers.now number }
 {
     let mut bits: u32 = 0;
     let mut bit: u32 = 1;

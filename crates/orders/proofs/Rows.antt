@@ -6,18 +6,18 @@ use mathlib.Core.List.{List}
 use native.Mathlib.Omega.{arith}
 use Rattle.kit.specs.Ladder.{NoneHolds, Numbered}
 use Rattle.kit.proofs.Ladder.{numbered-each, passed-exactly}
-use Rattle.order_list.specs.Lists.{orderCount}
-use Rattle.orders.specs.Orders.{orderRows, listRows, listRefusal}
+use Rattle.order_list.specs.Lists.{order_count}
+use Rattle.orders.specs.Orders.{order_rows, list_rows, list_refusal}
 use Rattle.places.specs.declared.Place.{Place}
 
 -- every answer of these ladders is a number of document 01, and so not 0
-pub order-numbered : (places : List Place) (list : List ℕ) (j : ℕ) → Numbered (orderRows places list j)
-unfolding orderRows
+pub order-numbered : (places : List Place) (list : List ℕ) (j : ℕ) → Numbered (order_rows places list j)
+unfolding order_rows
 order-numbered places list j = omega arith
 
-pub list-numbered : (places : List Place) (list : List ℕ) → Numbered (listRows places list)
-unfolding listRows
-list-numbered places list = (omega arith, (omega arith, numbered-each (orderRows places list) (order-numbered places list) 0 (orderCount list)))
+pub list-numbered : (places : List Place) (list : List ℕ) → Numbered (list_rows places list)
+unfolding list_rows
+list-numbered places list = (omega arith, (omega arith, numbered-each (order_rows places list) (order-numbered places list) 0 (order_count list)))
 
-pub list-accepted : (places : List Place) (list : List ℕ) → (listRefusal places list ≡ 0) ↔ NoneHolds (listRows places list)
-list-accepted places list = passed-exactly (listRows places list) (list-numbered places list)
+pub list-accepted : (places : List Place) (list : List ℕ) → (list_refusal places list ≡ 0) ↔ NoneHolds (list_rows places list)
+list-accepted places list = passed-exactly (list_rows places list) (list-numbered places list)

@@ -3,8 +3,8 @@
 ghost use Rattle.std.specs.Prelude.{◌≡◌, ◌<◌, ◌≤◌};
 ghost use Rattle.kit.specs.Each.{each};
 ghost use Rattle.kit.specs.Ladder.{ladder};
-ghost use Rattle.order_list.specs.Lists.{numbersOf};
-ghost use Rattle.orders.specs.Orders.{types_of, OfPlaces, isRetyped, orderRows, listRefusal};
+ghost use Rattle.order_list.specs.Lists.{numbers_of};
+ghost use Rattle.orders.specs.Orders.{types_of, OfPlaces, is_retyped, order_rows, list_refusal};
 
 use condition::SLOTS;
 use order_list::{LENGTH, Order};
@@ -30,7 +30,7 @@ fn types_of(places: [Place; 20]) -> [u8; 20]
 
 // Whether an order is live with another type, by the orders of the places and their types.
 fn is_retyped(live: &[u32; 20], types: &[u8; 20], order: Order) -> bool
-    ensures { OfPlaces live.now types.now (λ places. result ≡ isRetyped places order) }
+    ensures { OfPlaces live.now types.now (λ places. result ≡ is_retyped places order) }
 {
     let at = order_list::found_at(live, order.number);
     if at < SLOTS {
@@ -41,8 +41,8 @@ fn is_retyped(live: &[u32; 20], types: &[u8; 20], order: Order) -> bool
 
 // The refusal of order j, or 0, by the orders of the places and their types and by the order numbers of the list.
 fn order_refusal(live: &[u32; 20], types: &[u8; 20], numbers: &[u32; 20], list: &[u8], j: u8) -> u8
-    requires { (j < 20) × (numbers.now ≡ numbersOf list.now) }
-    ensures { OfPlaces live.now types.now (λ places. result ≡ ladder 0 (orderRows places list.now j)) }
+    requires { (j < 20) × (numbers.now ≡ numbers_of list.now) }
+    ensures { OfPlaces live.now types.now (λ places. result ≡ ladder 0 (order_rows places list.now j)) }
 {
     let order = order_list::order_at(list, j);
     if order.number == 0 {
@@ -69,7 +69,7 @@ fn order_refusal(live: &[u32; 20], types: &[u8; 20], numbers: &[u32; 20], list: 
 // The refusal of the first bad order of n, or 0.
 fn orders_refusal(places: [Place; 20], list: &[u8], n: u8) -> u8
     requires { n ≤ 20 }
-    ensures { result ≡ ladder 0 (each (orderRows places list.now) 0 n) }
+    ensures { result ≡ ladder 0 (each (order_rows places list.now) 0 n) }
 {
     let live = places::orders_of(places);
     let types = types_of(places);
@@ -87,7 +87,7 @@ fn orders_refusal(places: [Place; 20], list: &[u8], n: u8) -> u8
 
 // The refusal of a list, or 0.
 pub fn refusal_of(places: [Place; 20], list: &[u8]) -> u8
-    ensures { result ≡ listRefusal places list.now }
+    ensures { result ≡ list_refusal places list.now }
 {
     let length = list.len();
     if length % LENGTH != 0 {

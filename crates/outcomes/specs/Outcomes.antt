@@ -4,33 +4,33 @@ use Rattle.outcomes.specs.declared.outcomes.State.{State}
 use Rattle.outcomes.specs.declared.outcomes.State.TheVariants.{More, Again, Ended, Failed}
 
 -- a read: some bytes came; or it failed, and is made again where a signal came before a byte; or there are no more
-abbrev pub afterRead : ℕ → Bool → Bool → State
-afterRead count failed interrupted = cond (ltb 0 count) More (cond failed (cond interrupted Again Failed) Ended)
+abbrev pub after_read : ℕ → Bool → Bool → State
+after_read count failed interrupted = cond (ltb 0 count) More (cond failed (cond interrupted Again Failed) Ended)
 
 -- a write of some bytes: some were taken; or a signal came before; or it failed, as one that takes nothing
-abbrev pub afterWrite : ℕ → Bool → Bool → State
-afterWrite count failed interrupted = cond (ltb 0 count) More (cond failed (cond interrupted Again Failed) Failed)
+abbrev pub after_write : ℕ → Bool → Bool → State
+after_write count failed interrupted = cond (ltb 0 count) More (cond failed (cond interrupted Again Failed) Failed)
 
 -- the call is made again
-abbrev pub isAgain : State → Bool
-isAgain More = false
-isAgain Again = true
-isAgain Ended = false
-isAgain Failed = false
+abbrev pub is_again : State → Bool
+is_again More = false
+is_again Again = true
+is_again Ended = false
+is_again Failed = false
 
 -- it is told, and ends the program
-abbrev pub isFailed : State → Bool
-isFailed More = false
-isFailed Again = false
-isFailed Ended = false
-isFailed Failed = true
+abbrev pub is_failed : State → Bool
+is_failed More = false
+is_failed Again = false
+is_failed Ended = false
+is_failed Failed = true
 
 -- the input has ended
-abbrev pub isEnded : State → Bool
-isEnded More = false
-isEnded Again = false
-isEnded Ended = true
-isEnded Failed = false
+abbrev pub is_ended : State → Bool
+is_ended More = false
+is_ended Again = false
+is_ended Ended = true
+is_ended Failed = false
 
 -- nothing more is read
 abbrev pub is_over : State → Bool

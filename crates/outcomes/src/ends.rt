@@ -1,7 +1,7 @@
 // How the reading of an input of lists or calls ended, each after its length.
 ghost use Rattle.std.specs.Prelude.{◌≡◌, cond};
 ghost use Rattle.outcomes.specs.declared.ends.End.TheVariants.{Whole, Short};
-ghost use Rattle.outcomes.specs.Ends.{endBy, endsInside};
+ghost use Rattle.outcomes.specs.Ends.{end_by, ends_inside};
 
 use crate::outcomes::State;
 
@@ -15,7 +15,7 @@ pub enum End {
 
 // By what the last read came to, and whether some bytes of a list or call had come.
 pub fn end_of(state: State, begun: bool) -> End
-    ensures { result ≡ endBy state begun }
+    ensures { result ≡ end_by state begun }
 {
     match state {
         State::More => End::Failed,
@@ -36,7 +36,7 @@ fn ended(begun: bool) -> End
 
 // Whether the input has ended inside a list or call, so that this is said.
 pub fn is_short(end: End) -> bool
-    ensures { result ≡ endsInside end }
+    ensures { result ≡ ends_inside end }
 {
     match end {
         End::Whole => false,

@@ -1,7 +1,7 @@
 // What a read or a write came to, and what follows. The system answers how many bytes it moved, or that the call failed, and then whether
 // that was because a signal came before a byte was moved.
 ghost use Rattle.std.specs.Prelude.{◌≡◌};
-ghost use Rattle.outcomes.specs.Outcomes.{afterRead, afterWrite, isAgain, is_over, isFailed, isEnded};
+ghost use Rattle.outcomes.specs.Outcomes.{after_read, after_write, is_again, is_over, is_failed, is_ended};
 
 // Go on; do it again; the input has ended; it failed.
 #[derive(Drop)]
@@ -21,7 +21,7 @@ pub struct Moved {
 
 // What follows a read that moved so many bytes.
 pub fn read_of(count: usize, failed: bool, interrupted: bool) -> State
-    ensures { result ≡ afterRead count failed interrupted }
+    ensures { result ≡ after_read count failed interrupted }
 {
     if 0 < count {
         return State::More;
@@ -37,7 +37,7 @@ pub fn read_of(count: usize, failed: bool, interrupted: bool) -> State
 
 // What follows a write of at least one byte. One that takes nothing has failed.
 pub fn write_of(count: usize, failed: bool, interrupted: bool) -> State
-    ensures { result ≡ afterWrite count failed interrupted }
+    ensures { result ≡ after_write count failed interrupted }
 {
     if 0 < count {
         return State::More;
@@ -52,7 +52,7 @@ pub fn write_of(count: usize, failed: bool, interrupted: bool) -> State
 
 // Whether the call is made again.
 pub fn is_again(state: State) -> bool
-    ensures { result ≡ isAgain state }
+    ensures { result ≡ is_again state }
 {
     match state {
         State::More => false,
@@ -64,7 +64,7 @@ pub fn is_again(state: State) -> bool
 
 // Whether it is told, and ends the program.
 pub fn is_failed(state: State) -> bool
-    ensures { result ≡ isFailed state }
+    ensures { result ≡ is_failed state }
 {
     match state {
         State::More => false,
@@ -76,7 +76,7 @@ pub fn is_failed(state: State) -> bool
 
 // Whether the input has ended, so that what stands at the end is written.
 pub fn is_ended(state: State) -> bool
-    ensures { result ≡ isEnded state }
+    ensures { result ≡ is_ended state }
 {
     match state {
         State::More => false,

@@ -1,7 +1,7 @@
 // How far a reading is: a line on a terminal that is written again and again in its place.
 ghost use Rattle.std.specs.Prelude.{◌≡◌, ◌+◌, min};
 ghost use Rattle.kit.specs.Put.{Poured};
-ghost use Rattle.outcomes.specs.Progress.{mostCounted, progressOf, advancedBy, isDue, progressLine};
+ghost use Rattle.outcomes.specs.Progress.{most_counted, progress_of, advanced_by, is_due, progress_line};
 
 // Whether it is shown at all, how many bytes the input has, how many were read, and how many reads ago the line was written, modulo 128.
 #[derive(Drop)]
@@ -18,7 +18,7 @@ const READS: u8 = 128;
 impl Progress {
     // Before any read.
     pub fn of(shown: bool, size: u64) -> Self
-        ensures { result ≡ progressOf shown size }
+        ensures { result ≡ progress_of shown size }
     {
         Progress {
             shown,
@@ -30,7 +30,7 @@ impl Progress {
 
     // After a read of so many bytes.
     pub fn advanced(self, count: u64) -> Self
-        ensures { result ≡ advancedBy self count }
+        ensures { result ≡ advanced_by self count }
     {
         Progress {
             shown: self.shown,
@@ -42,7 +42,7 @@ impl Progress {
 
     // Whether the line is written now.
     pub fn is_due(self) -> bool
-        ensures { result ≡ isDue self }
+        ensures { result ≡ is_due self }
     {
         if self.shown {
             return self.reads == 0;
@@ -52,7 +52,7 @@ impl Progress {
 
     // `N of M bytes`, and a return to the beginning of the line, so that what is written next stands in its place.
     pub fn put_line(self, out: &mut [u8], at: usize) -> usize
-        ensures { Poured out.old at (progressLine self) out.new result }
+        ensures { Poured out.old at (progress_line self) out.new result }
     {
         let second = text::put_decimal(out, at, self.done);
         let third = text::put_words(out, second, b" of ");
@@ -63,7 +63,7 @@ impl Progress {
 
 // The count stays at the greatest number that it can hold.
 fn more(done: u64, count: u64) -> u64
-    ensures { result ≡ min (done + count) mostCounted }
+    ensures { result ≡ min (done + count) most_counted }
 {
     if u64::MAX - done < count {
         return u64::MAX;

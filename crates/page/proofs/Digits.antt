@@ -39,10 +39,10 @@ module _ (front back : ℕ) (p : front < 100) (q : back < 100) where
   two_digits = rw both-tens (omega arith)
 
 -- a number's last four digits are those of two numbers below 100
-pub four-digits : (n : ℕ)
+pub four_digits_lem : (n : ℕ)
     → n % 10000 / 100 / 10 + n % 10000 / 100 % 10 * 0x100 + n % 10000 % 100 / 10 * 0x10000 + n % 10000 % 100 % 10 * 0x1000000
     ≡ n / 1000 % 10 + n / 100 % 10 * 0x100 + n / 10 % 10 * 0x10000 + n % 10 * 0x1000000
-four-digits n =
+four_digits_lem n =
     let first : n % 10000 / 100 / 10 ≡ n / 1000 % 10 = omega arith in
     let second : n % 10000 / 100 % 10 ≡ n / 100 % 10 = omega arith in
     let third : n % 10000 % 100 / 10 ≡ n / 10 % 10 = omega arith in

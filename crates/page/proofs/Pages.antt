@@ -13,7 +13,7 @@ use native.Mathlib.Omega.{arith}
 use Rattle.kit.specs.Each.{each}
 use Rattle.kit.specs.Put.{Put, Poured}
 use Rattle.kit.proofs.Each.{each_next}
-use Rattle.kit.proofs.Put.{put_then, poured-as}
+use Rattle.kit.proofs.Put.{put_then, poured_as}
 use Rattle.page.specs.Pages.{Paged, Laid}
 use Rattle.page.specs.Packed.{low_bytes}
 use Rattle.page.proofs.Packed.{low-length, low-take}
@@ -30,8 +30,8 @@ paged-then {l = l} {i = i} {a = a} {b = b} p q =
     }
 
 -- the same bytes under another name
-pub paged-as : {x : ℕ} {l m : List ℕ} {i j : ℕ} {a b : List ℕ} → a ≡ b → Paged x l i b m j → Paged x l i a m j
-paged-as {x} {l} {m} {i} {j} e p = subst (λ bytes. Paged x l i bytes m j) (sym e) p
+pub paged_as : {x : ℕ} {l m : List ℕ} {i j : ℕ} {a b : List ℕ} → a ≡ b → Paged x l i b m j → Paged x l i a m j
+paged_as {x} {l} {m} {i} {j} e p = subst (λ bytes. Paged x l i bytes m j) (sym e) p
 
 -- within a larger bound
 pub paged-most : {x y : ℕ} {l m : List ℕ} {i j : ℕ} {a : List ℕ} → x ≤ y → Paged x l i a m j → Paged y l i a m j
@@ -40,7 +40,7 @@ paged-most le p = record { held = p.held; past = p.past; within = omega (arith, 
 -- one thing's bytes after those of the i things before it
 pub paged-each : (of : ℕ → List ℕ) (i : ℕ) {x y z : ℕ} {l m n : List ℕ} {at j k : ℕ} → x + y ≤ z → Paged x l at (each of 0 i) m j → Paged y m j (of i) n k
     → Paged z l at (each of 0 (i + 1)) n k
-paged-each of i room a b = paged-as (each_next of i) (paged-most room (paged-then a b))
+paged-each of i room a b = paged_as (each_next of i) (paged-most room (paged-then a b))
 
 -- the first bytes of a store are put, whatever is stored past them
 pub paged-sets : (l : List ℕ) (i : ℕ) (stored : List ℕ) (count : ℕ) → i + length stored ≤ length l → count ≤ length stored
@@ -73,11 +73,11 @@ pub paged-low : (l : List ℕ) (i k count piece : ℕ) {m : List ℕ} → i + k 
 paged-low l i k count piece room few same =
     let long : length (low_bytes k piece) ≡ k = low-length k piece in
     subst (λ m. Paged count l i (low_bytes count piece) m (i + count)) (sym same)
-    (paged-as (sym (low-take count k piece few)) (paged-sets l i (low_bytes k piece) count (omega arith) (omega arith)))
+    (paged_as (sym (low-take count k piece few)) (paged-sets l i (low_bytes k piece) count (omega arith) (omega arith)))
 
 -- within a bound that its bytes keep
-pub paged-tight : {x y : ℕ} {l m : List ℕ} {i j : ℕ} {a : List ℕ} → length a ≤ y → Paged x l i a m j → Paged y l i a m j
-paged-tight le p = record { held = p.held; past = p.past; within = omega (arith, p.past) }
+pub paged_tight : {x y : ℕ} {l m : List ℕ} {i j : ℕ} {a : List ℕ} → length a ≤ y → Paged x l i a m j → Paged y l i a m j
+paged_tight le p = record { held = p.held; past = p.past; within = omega (arith, p.past) }
 
 -- as many as there are at most
 pub take_min : (n most : ℕ) (l : List ℕ) → length l ≡ most → take (min n most) l ≡ take n l
@@ -88,15 +88,15 @@ take_min n most l long =
 
 -- ---- with a test of the room
 
-pub laid-full : {w x : ℕ} {l : List ℕ} {i : ℕ} {a s : List ℕ} → leb (i + w) (length l) ≡ false → Laid w x l i a s l i
-laid-full {w} {x} {l} {i} e = record { exact = rw e refl; place = rw e refl; paged = λ room. absurd (omega (arith, leb-false (i + w) (length l) e)) }
+pub laid_full : {w x : ℕ} {l : List ℕ} {i : ℕ} {a s : List ℕ} → leb (i + w) (length l) ≡ false → Laid w x l i a s l i
+laid_full {w} {x} {l} {i} e = record { exact = rw e refl; place = rw e refl; paged = λ room. absurd (omega (arith, leb-false (i + w) (length l) e)) }
 
-pub laid-room : {w x : ℕ} {l m : List ℕ} {i j : ℕ} {a s : List ℕ} → leb (i + w) (length l) ≡ true → m ≡ sets l i s → Paged x l i a m j → Laid w x l i a s m j
-laid-room e same put = record { exact = rw e same; place = rw e put.past; paged = λ room. put }
+pub laid_room : {w x : ℕ} {l m : List ℕ} {i j : ℕ} {a s : List ℕ} → leb (i + w) (length l) ≡ true → m ≡ sets l i s → Paged x l i a m j → Laid w x l i a s m j
+laid_room e same put = record { exact = rw e same; place = rw e put.past; paged = λ room. put }
 
 -- within a bound that the bytes keep
-pub laid-tight : {w x y : ℕ} {l m : List ℕ} {i j : ℕ} {a s : List ℕ} → length a ≤ y → Laid w x l i a s m j → Laid w y l i a s m j
-laid-tight le laid = record { exact = laid.exact; place = laid.place; paged = λ room. paged-tight le (laid.paged room) }
+pub laid_tight : {w x y : ℕ} {l m : List ℕ} {i j : ℕ} {a s : List ℕ} → length a ≤ y → Laid w x l i a s m j → Laid w y l i a s m j
+laid_tight le laid = record { exact = laid.exact; place = laid.place; paged = λ room. paged_tight le (laid.paged room) }
 
 -- the same bytes, put and stored, under other names and a larger bound
 pub laid_as : {w x y : ℕ} {l m : List ℕ} {i j : ℕ} {a b s t : List ℕ} → a ≡ b → s ≡ t → x ≤ y → Laid w x l i b t m j → Laid w y l i a s m j
@@ -104,14 +104,14 @@ laid_as {w} {x} {y} {l} {m} {i} {j} {a} {b} {s} {t} put stored le laid =
     record {
       exact = laid.exact ∙ ap (λ bytes. cond (leb (i + w) (length l)) (sets l i bytes) l) (sym stored);
       place = laid.place ∙ ap (λ bytes. cond (leb (i + w) (length l)) (i + length bytes) i) (sym put);
-      paged = λ room. paged-as put (paged-most le (laid.paged room));
+      paged = λ room. paged_as put (paged-most le (laid.paged room));
     }
 
 -- a page filled from its start, copied into a buffer as far as it is filled, pours what was put on the page
 pub paged-poured : {x : ℕ} {p l m : List ℕ} {page : List ℕ} {next at j : ℕ} {bytes : List ℕ} → Paged x p 0 bytes page next → Poured l at (take (next - 0) page) m j → Poured l at bytes m j
-paged-poured {page = page} {next} put copied = let whole : next ≡ next - 0 = omega arith in poured-as (sym put.held ∙ ap (λ n. take n page) whole) copied
+paged-poured {page = page} {next} put copied = let whole : next ≡ next - 0 = omega arith in poured_as (sym put.held ∙ ap (λ n. take n page) whole) copied
 
 -- ---- one answer
 
-pub agree-laid : {w x : ℕ} {l a s m n : List ℕ} {i j k : ℕ} → Laid w x l i a s m j → Laid w x l i a s n k → (j ≡ k) × (m ≡ n)
-agree-laid p q = (agree p.place q.place, agree p.exact q.exact)
+pub agree_laid : {w x : ℕ} {l a s m n : List ℕ} {i j k : ℕ} → Laid w x l i a s m j → Laid w x l i a s n k → (j ≡ k) × (m ≡ n)
+agree_laid p q = (agree p.place q.place, agree p.exact q.exact)

@@ -5,10 +5,10 @@ ghost use Rattle.std.specs.Prelude.{◌≡◌, cond, [], ◌∷◌, ◌++◌, le
 ghost use Rattle.std.proofs.lemmas.List.Edits.{sets};
 ghost use Rattle.kit.specs.Text.{ascii};
 ghost use Rattle.text.specs.Decimals.{decimal};
-ghost use Rattle.text.specs.Hexadecimals.{hexDigit, hexadecimal};
-ghost use Rattle.page.specs.Words.{bytesOfWord, packedWord};
+ghost use Rattle.text.specs.Hexadecimals.{hex_digit, hexadecimal};
+ghost use Rattle.page.specs.Words.{bytes_of_word, packed_word};
 ghost use Rattle.page.specs.Pages.{Laid};
-ghost use Rattle.page.specs.Packed.{Small, low_bytes, numberMade, digitsBefore};
+ghost use Rattle.page.specs.Packed.{Small, low_bytes, number_made, digits_before};
 
 // Whether so many bytes have room from `at` on.
 fn has_room(size: usize, at: usize, width: usize) -> bool
@@ -67,7 +67,7 @@ pub fn put_byte(page: &mut [u8], at: usize, byte: u8) -> usize
 // How many digits come before the last one.
 fn more(n: u64) -> u64
     requires { n < 65536 }
-    ensures { (result ≡ digitsBefore n) × (result ≤ 4) }
+    ensures { (result ≡ digits_before n) × (result ≤ 4) }
 {
     (n >= 10) as u64 + (n >= 100) as u64 + (n >= 1000) as u64 + (n >= 10000) as u64
 }
@@ -86,7 +86,7 @@ fn last_four(n: u64) -> u64
 
 // A number in decimal, and a byte after it where it is wanted.
 fn put_digits(page: &mut [u8], at: usize, number: u16, after: u8, wanted: bool) -> usize
-    ensures { Laid 8 (cond wanted 6 5) page.old at (decimal number ++ cond wanted (after ∷ []) []) (low_bytes 8 (numberMade (decimal number ++ (after ∷ ascii "00")))) page.new result }
+    ensures { Laid 8 (cond wanted 6 5) page.old at (decimal number ++ cond wanted (after ∷ []) []) (low_bytes 8 (number_made (decimal number ++ (after ∷ ascii "00")))) page.new result }
 {
     let n = number as u64;
     let eight = (48 + n / 10000)
@@ -104,14 +104,14 @@ fn put_digits(page: &mut [u8], at: usize, number: u16, after: u8, wanted: bool) 
 
 // A number in decimal, and a byte after it.
 pub fn put_number(page: &mut [u8], at: usize, number: u16, after: u8) -> usize
-    ensures { Laid 8 6 page.old at (decimal number ++ (after ∷ [])) (low_bytes 8 (numberMade (decimal number ++ (after ∷ ascii "00")))) page.new result }
+    ensures { Laid 8 6 page.old at (decimal number ++ (after ∷ [])) (low_bytes 8 (number_made (decimal number ++ (after ∷ ascii "00")))) page.new result }
 {
     put_digits(page, at, number, after, true)
 }
 
 // The same of a number that has most often one digit: that case is quicker here, and every other one slower.
 pub fn put_short_number(page: &mut [u8], at: usize, number: u8, after: u8) -> usize
-    ensures { Laid 8 4 page.old at (decimal number ++ (after ∷ [])) (low_bytes 8 (numberMade (decimal number ++ (after ∷ ascii "00")))) page.new result }
+    ensures { Laid 8 4 page.old at (decimal number ++ (after ∷ [])) (low_bytes 8 (number_made (decimal number ++ (after ∷ ascii "00")))) page.new result }
 {
     if number < 10 {
         return put_piece(
@@ -126,7 +126,7 @@ pub fn put_short_number(page: &mut [u8], at: usize, number: u8, after: u8) -> us
 
 // A number in decimal, and nothing after it.
 pub fn put_bare_number(page: &mut [u8], at: usize, number: u16) -> usize
-    ensures { Laid 8 5 page.old at (decimal number) (low_bytes 8 (numberMade (decimal number ++ ascii "000"))) page.new result }
+    ensures { Laid 8 5 page.old at (decimal number) (low_bytes 8 (number_made (decimal number ++ ascii "000"))) page.new result }
 {
     put_digits(page, at, number, b'0', false)
 }
@@ -143,7 +143,7 @@ fn at_most(count: usize, most: usize) -> usize
 // Eight bytes of a text from `from` on, or as many as it has, as a number, the first one lowest.
 fn piece_of(words: &[u8], from: usize) -> u64
     requires { from ≤ 8 }
-    ensures { (result ≡ numberMade (take 8 (drop from words.now))) × Small (take 8 (drop from words.now)) }
+    ensures { (result ≡ number_made (take 8 (drop from words.now))) × Small (take 8 (drop from words.now)) }
 {
     let mut piece: u64 = 0;
     let mut i = at_most(words.len(), from + 8);
@@ -156,7 +156,7 @@ fn piece_of(words: &[u8], from: usize) -> u64
 
 // The first eight bytes of a text.
 pub fn put_short_text(page: &mut [u8], at: usize, words: &[u8]) -> usize
-    ensures { Laid 8 8 page.old at (take 8 words.now) (low_bytes 8 (numberMade (take 8 words.now))) page.new result }
+    ensures { Laid 8 8 page.old at (take 8 words.now) (low_bytes 8 (number_made (take 8 words.now))) page.new result }
 {
     put_piece(page, at, piece_of(words, 0), at_most(words.len(), 8))
 }
@@ -171,7 +171,7 @@ pub struct Word {
 
 // The first sixteen bytes of a text.
 pub fn word_of(words: &[u8]) -> Word
-    ensures { result ≡ packedWord words.now }
+    ensures { result ≡ packed_word words.now }
 {
     let low = piece_of(words, 0);
     let high = piece_of(words, 8);
@@ -183,7 +183,7 @@ pub fn word_of(words: &[u8]) -> Word
 }
 
 pub fn put_word(page: &mut [u8], at: usize, word: Word) -> usize
-    ensures { Laid 16 16 page.old at (bytesOfWord word) (low_bytes 8 word.low ++ low_bytes 8 word.high) page.new result }
+    ensures { Laid 16 16 page.old at (bytes_of_word word) (low_bytes 8 word.low ++ low_bytes 8 word.high) page.new result }
 {
     if has_room(page.len(), at, 16) {
         put_eight(page, at, word.low);
@@ -196,7 +196,7 @@ pub fn put_word(page: &mut [u8], at: usize, word: Word) -> usize
 // A digit in hexadecimal.
 fn hex_digit(digit: u8) -> u8
     requires { digit < 16 }
-    ensures { result ≡ hexDigit digit }
+    ensures { result ≡ hex_digit digit }
 {
     b'0' + digit + (digit >= 10) as u8 * 39
 }
@@ -204,7 +204,7 @@ fn hex_digit(digit: u8) -> u8
 // The two digits of a byte.
 fn put_two(page: &mut [u8], at: usize, byte: u8)
     requires { at + 2 ≤ length page.old }
-    ensures { page.new ≡ sets page.old at (hexDigit (byte / 16) ∷ hexDigit (byte % 16) ∷ []) }
+    ensures { page.new ≡ sets page.old at (hex_digit (byte / 16) ∷ hex_digit (byte % 16) ∷ []) }
 {
     page[at] = hex_digit(byte / 16);
     page[at + 1] = hex_digit(byte % 16);

@@ -1,6 +1,6 @@
 // What is judged of a whole set in the lent memory of a listener: how many conditions it has, and whether a number stands in it twice.
 ghost use Rattle.std.specs.Prelude.{◌+◌, ◌<◌, cond, true, false, ◌&&◌, ◌≡◌, get_or, set};
-ghost use Rattle.memory.specs.Memory.{is_set, setIn};
+ghost use Rattle.memory.specs.Memory.{is_set, set_in};
 ghost use Rattle.picture.specs.Pictures.{count_of, clashes};
 
 use condition::SLOTS;
@@ -19,7 +19,7 @@ fn counted(shape: u8, sum: u8) -> u8
 
 // How many conditions the set has.
 pub fn count_of(memory: &[u8; 310]) -> u8
-    ensures { result ≡ count_of (setIn memory.now) }
+    ensures { result ≡ count_of (set_in memory.now) }
 {
     let mut count: u8 = 0;
     let mut i: usize = 0;
@@ -52,7 +52,7 @@ fn see(seen: &mut [bool; 256], number: u8, shape: u8)
 
 // Whether a number stands in the set twice.
 pub fn clashes(memory: &[u8; 310]) -> bool
-    ensures { result ≡ clashes (setIn memory.now) }
+    ensures { result ≡ clashes (set_in memory.now) }
 {
     let mut seen = [false; 256];
     let mut i: usize = 0;

@@ -1,6 +1,6 @@
 // The twenty places of a desk: which order has each, and its slot in the table.
 ghost use Rattle.std.specs.Prelude.{◌≡◌};
-ghost use Rattle.places.specs.Places.{freePlace, ordersOf, placeOf};
+ghost use Rattle.places.specs.Places.{free_place, orders_of, place_of};
 
 use condition::{SLOTS, Slot};
 
@@ -13,7 +13,7 @@ pub struct Place {
 
 impl Place {
     pub fn free() -> Self
-        ensures { result ≡ freePlace }
+        ensures { result ≡ free_place }
     {
         Place {
             order: 0,
@@ -24,7 +24,7 @@ impl Place {
 
 // The orders that have the twenty places, in their order; 0 of a free one.
 pub fn orders_of(places: [Place; 20]) -> [u32; 20]
-    ensures { result ≡ ordersOf places }
+    ensures { result ≡ orders_of places }
 {
     let mut orders = [0u32; 20];
     let mut i: usize = 0;
@@ -37,7 +37,7 @@ pub fn orders_of(places: [Place; 20]) -> [u32; 20]
 
 // The lowest place that an order has, or 20 where it is not live. Of order 0: the lowest free place.
 pub fn place_of(places: [Place; 20], order: u32) -> usize
-    ensures { result ≡ placeOf places order }
+    ensures { result ≡ place_of places order }
 {
     let orders = orders_of(places);
     order_list::found_at(&orders, order)

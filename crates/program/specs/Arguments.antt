@@ -3,7 +3,7 @@ use Rattle.std.specs.Prelude.{ℕ, Bool, true, false, cond, List, [], ◌∷◌,
 use Prim.Native.Char.{code}
 use Rattle.kit.specs.Ladder.{ladder}
 use Rattle.kit.specs.Text.{ascii}
-use Rattle.same_text.specs.Same.{isSameText}
+use Rattle.same_text.specs.Same.{is_same_text}
 use Rattle.program.specs.declared.names.Program.{Program}
 use Rattle.program.specs.declared.names.Program.TheVariants.{ListConditions, RunDesk, ReadSignals}
 use Rattle.program.specs.declared.arguments.Argument.{Argument}
@@ -15,71 +15,71 @@ use Rattle.program.specs.declared.arguments.Asked.{Asked}
 -- ---- one argument
 
 -- it begins as an option does
-unfoldable pub isOption : List ℕ → Bool
-isOption text = eqb (get_or text 0 0) (code "-")
+unfoldable pub is_option : List ℕ → Bool
+is_option text = eqb (get_or text 0 0) (code "-")
 
 -- what it is: one of these words, another that begins as an option does, or a name
-unfoldable pub argumentOf : List ℕ → Argument
-argumentOf text =
+unfoldable pub argument_of : List ℕ → Argument
+argument_of text =
     ladder Name
-    ((isSameText text (ascii "-"), Standard)
-    ∷ (isSameText text (ascii "--help"), Help)
-    ∷ (isSameText text (ascii "--version"), Version)
-    ∷ (isSameText text (ascii "--summary"), Summary)
-    ∷ (isSameText text (ascii "--progress"), Progress)
-    ∷ (isOption text, Unknown)
+    ((is_same_text text (ascii "-"), Standard)
+    ∷ (is_same_text text (ascii "--help"), Help)
+    ∷ (is_same_text text (ascii "--version"), Version)
+    ∷ (is_same_text text (ascii "--summary"), Summary)
+    ∷ (is_same_text text (ascii "--progress"), Progress)
+    ∷ (is_option text, Unknown)
     ∷ [])
 
 -- ---- all of them
 
-abbrev pub isWork : Task → Bool
-isWork Work = true
-isWork ShowHelp = false
-isWork ShowVersion = false
-isWork NotUnderstood = false
-isWork OneInputOnly = false
+abbrev pub is_work : Task → Bool
+is_work Work = true
+is_work ShowHelp = false
+is_work ShowVersion = false
+is_work NotUnderstood = false
+is_work OneInputOnly = false
 
 -- the programs that have a summary
-abbrev pub hasSummary : Program → Bool
-hasSummary ListConditions = true
-hasSummary RunDesk = false
-hasSummary ReadSignals = false
+abbrev pub has_summary : Program → Bool
+has_summary ListConditions = true
+has_summary RunDesk = false
+has_summary ReadSignals = false
 
 -- before any argument: the work, on standard input
-abbrev pub nothingAsked : Asked
-nothingAsked = record { task = Work; at = 0; given = false; file = 0; summary = false; progress = false }
+abbrev pub nothing_asked : Asked
+nothing_asked = record { task = Work; at = 0; given = false; file = 0; summary = false; progress = false }
 
 -- the argument of this index asks for something else than the work
-abbrev pub decidedBy : Asked → Task → ℕ → Asked
-decidedBy asked task at = record { task = task; at = at; given = asked.given; file = asked.file; summary = asked.summary; progress = asked.progress }
+abbrev pub decided_by : Asked → Task → ℕ → Asked
+decided_by asked task at = record { task = task; at = at; given = asked.given; file = asked.file; summary = asked.summary; progress = asked.progress }
 
 -- it names the input, 0 for standard input, and there is one input only
-abbrev pub withInput : Asked → ℕ → ℕ → Asked
-withInput asked file at =
+abbrev pub with_input : Asked → ℕ → ℕ → Asked
+with_input asked file at =
     cond asked.given
-    (decidedBy asked OneInputOnly at)
+    (decided_by asked OneInputOnly at)
     (record { task = Work; at = 0; given = true; file = file; summary = asked.summary; progress = asked.progress })
 
 -- it asks for a summary, which a program that has none does not understand
-abbrev pub withSummary : Program → Asked → ℕ → Asked
-withSummary program asked at =
-    cond (hasSummary program)
+abbrev pub with_summary : Program → Asked → ℕ → Asked
+with_summary program asked at =
+    cond (has_summary program)
     (record { task = Work; at = 0; given = asked.given; file = asked.file; summary = true; progress = asked.progress })
-    (decidedBy asked NotUnderstood at)
+    (decided_by asked NotUnderstood at)
 
-abbrev pub withProgress : Asked → Asked
-withProgress asked = record { task = Work; at = 0; given = asked.given; file = asked.file; summary = asked.summary; progress = true }
+abbrev pub with_progress : Asked → Asked
+with_progress asked = record { task = Work; at = 0; given = asked.given; file = asked.file; summary = asked.summary; progress = true }
 
 -- what one argument more asks for
-abbrev pub byArgument : Program → Asked → Argument → ℕ → Asked
-byArgument program asked Standard at = withInput asked 0 at
-byArgument program asked Help at = decidedBy asked ShowHelp at
-byArgument program asked Version at = decidedBy asked ShowVersion at
-byArgument program asked Summary at = withSummary program asked at
-byArgument program asked Progress at = withProgress asked
-byArgument program asked Unknown at = decidedBy asked NotUnderstood at
-byArgument program asked Name at = withInput asked at at
+abbrev pub by_argument : Program → Asked → Argument → ℕ → Asked
+by_argument program asked Standard at = with_input asked 0 at
+by_argument program asked Help at = decided_by asked ShowHelp at
+by_argument program asked Version at = decided_by asked ShowVersion at
+by_argument program asked Summary at = with_summary program asked at
+by_argument program asked Progress at = with_progress asked
+by_argument program asked Unknown at = decided_by asked NotUnderstood at
+by_argument program asked Name at = with_input asked at at
 
 -- the first that asks for something else than the work decides
-abbrev pub askedWith : Program → Asked → Argument → ℕ → Asked
-askedWith program asked argument at = cond (isWork asked.task) (byArgument program asked argument at) asked
+abbrev pub asked_with : Program → Asked → Argument → ℕ → Asked
+asked_with program asked argument at = cond (is_work asked.task) (by_argument program asked argument at) asked

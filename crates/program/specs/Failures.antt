@@ -6,14 +6,14 @@ use Rattle.program.specs.declared.names.Program.{Program}
 use Rattle.program.specs.declared.failures.Doing.{Doing}
 use Rattle.program.specs.declared.failures.Doing.TheVariants.{ReadingStandard, ReadingFile, Opening, Writing, Telling, TakingArgument}
 
-abbrev pub doingWords : Doing → List ℕ → List ℕ
-doingWords ReadingStandard name = ascii "reading standard input"
-doingWords ReadingFile name = ascii "reading " ++ name
-doingWords Opening name = ascii "opening " ++ name
-doingWords Writing name = ascii "writing standard output"
-doingWords Telling name = ascii "writing error output"
-doingWords TakingArgument name = ascii "taking an argument"
+abbrev pub doing_words : Doing → List ℕ → List ℕ
+doing_words ReadingStandard name = ascii "reading standard input"
+doing_words ReadingFile name = ascii "reading " ++ name
+doing_words Opening name = ascii "opening " ++ name
+doing_words Writing name = ascii "writing standard output"
+doing_words Telling name = ascii "writing error output"
+doing_words TakingArgument name = ascii "taking an argument"
 
 -- the program's name before it
-unfoldable pub doingText : Program → Doing → List ℕ → List ℕ
-doingText program doing name = name_of program ++ (ascii ": " ++ doingWords doing name)
+unfoldable pub doing_text : Program → Doing → List ℕ → List ℕ
+doing_text program doing name = name_of program ++ (ascii ": " ++ doing_words doing name)

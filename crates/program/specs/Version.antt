@@ -3,5 +3,5 @@
 use Rattle.std.specs.Prelude.{ℕ, List}
 use Rattle.kit.specs.Text.{ascii}
 
-abbrev pub versionText : List ℕ
-versionText = ascii " 1.1.0 (Bravolith track conditions box), proved with rattle-kit-5b logic 064da1ca440f63e7\n"
+abbrev pub version_text : List ℕ
+version_text = ascii " 1.1.0 (Bravolith track conditions box), proved with rattle-kit-5b logic 064da1ca440f63e7\n"

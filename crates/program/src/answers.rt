@@ -1,7 +1,7 @@
 // What a program says where it is asked for something else than its work, and that it waits for input.
 ghost use Rattle.std.specs.Prelude.{◌≡◌};
 ghost use Rattle.kit.specs.Put.{Poured};
-ghost use Rattle.program.specs.Answers.{isComplaint, versionLine, complaintOf, answer_of, awaitedOf, awaitingLine};
+ghost use Rattle.program.specs.Answers.{is_complaint, version_line, complaint_of, answer_of, awaited_of, awaiting_line};
 
 use crate::arguments::Task;
 use crate::help::put_help;
@@ -9,7 +9,7 @@ use crate::names::{Program, put_name};
 
 // Whether what is said goes to error output.
 pub fn is_complaint(task: Task) -> bool
-    ensures { result ≡ isComplaint task }
+    ensures { result ≡ is_complaint task }
 {
     match task {
         Task::Work => false,
@@ -21,7 +21,7 @@ pub fn is_complaint(task: Task) -> bool
 }
 
 fn put_version(program: Program, out: &mut [u8], at: usize) -> usize
-    ensures { Poured out.old at (versionLine program) out.new result }
+    ensures { Poured out.old at (version_line program) out.new result }
 {
     let next = put_name(program, out, at);
     text::put_words(
@@ -40,7 +40,7 @@ fn put_complaint(
     out: &mut [u8],
     at: usize,
 ) -> usize
-    ensures { Poured out.old at (complaintOf program before.now word.now after.now) out.new result }
+    ensures { Poured out.old at (complaint_of program before.now word.now after.now) out.new result }
 {
     let second = put_name(program, out, at);
     let third = text::put_words(out, second, before);
@@ -69,7 +69,7 @@ pub fn put_answer(program: Program, task: Task, word: &[u8], out: &mut [u8], at:
 }
 
 fn put_awaited(program: Program, out: &mut [u8], at: usize) -> usize
-    ensures { Poured out.old at (awaitedOf program) out.new result }
+    ensures { Poured out.old at (awaited_of program) out.new result }
 {
     match program {
         Program::ListConditions => text::put_words(out, at, b"telegrams of 26 bytes"),
@@ -84,7 +84,7 @@ fn put_awaited(program: Program, out: &mut [u8], at: usize) -> usize
 
 // That input is awaited, where it is a terminal.
 pub fn put_awaiting(program: Program, out: &mut [u8], at: usize) -> usize
-    ensures { Poured out.old at (awaitingLine program) out.new result }
+    ensures { Poured out.old at (awaiting_line program) out.new result }
 {
     let second = put_name(program, out, at);
     let third = text::put_words(out, second, b": awaiting ");

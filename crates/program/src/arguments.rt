@@ -1,6 +1,6 @@
 // What a program's arguments ask for.
 ghost use Rattle.std.specs.Prelude.{◌≡◌};
-ghost use Rattle.program.specs.Arguments.{isOption, argumentOf, isWork, hasSummary, nothingAsked, decidedBy, withInput, withSummary, withProgress, byArgument, askedWith};
+ghost use Rattle.program.specs.Arguments.{is_option, argument_of, is_work, has_summary, nothing_asked, decided_by, with_input, with_summary, with_progress, by_argument, asked_with};
 
 use crate::names::Program;
 
@@ -42,7 +42,7 @@ pub struct Asked {
 
 // Whether a text begins with a hyphen, as options do.
 fn is_option(text: &[u8]) -> bool
-    ensures { result ≡ isOption text.now }
+    ensures { result ≡ is_option text.now }
 {
     if text.len() == 0 {
         return false;
@@ -51,7 +51,7 @@ fn is_option(text: &[u8]) -> bool
 }
 
 pub fn argument_of(text: &[u8]) -> Argument
-    ensures { result ≡ argumentOf text.now }
+    ensures { result ≡ argument_of text.now }
 {
     if same_text::is_same(text, b"-") {
         return Argument::Standard;
@@ -75,7 +75,7 @@ pub fn argument_of(text: &[u8]) -> Argument
 }
 
 pub fn is_work(task: Task) -> bool
-    ensures { result ≡ isWork task }
+    ensures { result ≡ is_work task }
 {
     match task {
         Task::Work => true,
@@ -88,7 +88,7 @@ pub fn is_work(task: Task) -> bool
 
 // Whether a program has a summary to show.
 fn has_summary(program: Program) -> bool
-    ensures { result ≡ hasSummary program }
+    ensures { result ≡ has_summary program }
 {
     match program {
         Program::ListConditions => true,
@@ -100,7 +100,7 @@ fn has_summary(program: Program) -> bool
 impl Asked {
     // Before any argument.
     pub fn nothing() -> Self
-        ensures { result ≡ nothingAsked }
+        ensures { result ≡ nothing_asked }
     {
         Asked {
             task: Task::Work,
@@ -114,7 +114,7 @@ impl Asked {
 
     // With one argument more, the one of this index. The first that asks for something else than the work decides.
     pub fn with(self, program: Program, argument: Argument, at: usize) -> Self
-        ensures { result ≡ askedWith program self argument at }
+        ensures { result ≡ asked_with program self argument at }
     {
         let task = self.task;
         if is_work(task) {
@@ -126,7 +126,7 @@ impl Asked {
 
 // What one argument more asks for, where all before it ask for the work.
 fn by_argument(asked: Asked, program: Program, argument: Argument, at: usize) -> Asked
-    ensures { result ≡ byArgument program asked argument at }
+    ensures { result ≡ by_argument program asked argument at }
 {
     match argument {
         Argument::Standard => with_input(asked, 0, at),
@@ -140,7 +140,7 @@ fn by_argument(asked: Asked, program: Program, argument: Argument, at: usize) ->
 }
 
 fn decided(asked: Asked, task: Task, at: usize) -> Asked
-    ensures { result ≡ decidedBy asked task at }
+    ensures { result ≡ decided_by asked task at }
 {
     Asked {
         task,
@@ -154,7 +154,7 @@ fn decided(asked: Asked, task: Task, at: usize) -> Asked
 
 // With its input, a file or standard input, where none was named before.
 fn with_input(asked: Asked, file: usize, at: usize) -> Asked
-    ensures { result ≡ withInput asked file at }
+    ensures { result ≡ with_input asked file at }
 {
     if asked.given {
         return decided(asked, Task::OneInputOnly, at);
@@ -171,7 +171,7 @@ fn with_input(asked: Asked, file: usize, at: usize) -> Asked
 
 // With a summary, where the program has one.
 fn with_summary(asked: Asked, program: Program, at: usize) -> Asked
-    ensures { result ≡ withSummary program asked at }
+    ensures { result ≡ with_summary program asked at }
 {
     if has_summary(program) {
         return Asked {
@@ -187,7 +187,7 @@ fn with_summary(asked: Asked, program: Program, at: usize) -> Asked
 }
 
 fn with_progress(asked: Asked) -> Asked
-    ensures { result ≡ withProgress asked }
+    ensures { result ≡ with_progress asked }
 {
     Asked {
         task: Task::Work,

@@ -1,6 +1,6 @@
 // What a program was doing when a call failed. The system's reason follows it on the line, after a colon and a blank.
 ghost use Rattle.kit.specs.Put.{Poured};
-ghost use Rattle.program.specs.Failures.{doingWords, doingText};
+ghost use Rattle.program.specs.Failures.{doing_words, doing_text};
 
 use crate::names::{Program, put_name};
 
@@ -15,7 +15,7 @@ pub enum Doing {
 }
 
 fn put_words_of(doing: Doing, name: &[u8], out: &mut [u8], at: usize) -> usize
-    ensures { Poured out.old at (doingWords doing name.now) out.new result }
+    ensures { Poured out.old at (doing_words doing name.now) out.new result }
 {
     match doing {
         Doing::ReadingStandard => text::put_words(out, at, b"reading standard input"),
@@ -35,7 +35,7 @@ fn put_words_of(doing: Doing, name: &[u8], out: &mut [u8], at: usize) -> usize
 
 // The program's name, and what it was doing; a file has its name there.
 pub fn put_doing(program: Program, doing: Doing, name: &[u8], out: &mut [u8], at: usize) -> usize
-    ensures { Poured out.old at (doingText program doing name.now) out.new result }
+    ensures { Poured out.old at (doing_text program doing name.now) out.new result }
 {
     let second = put_name(program, out, at);
     let third = text::put_words(out, second, b": ");

@@ -1,6 +1,6 @@
 // The page that `--help` shows, of each program. The manual pages are made of the same text.
 ghost use Rattle.kit.specs.Put.{Poured};
-ghost use Rattle.program.specs.Help.{helpText};
+ghost use Rattle.program.specs.Help.{help_text};
 
 use crate::names::Program;
 
@@ -75,7 +75,7 @@ Example:\n\
 \x20 read_signals calls.bin\n";
 
 pub fn put_help(program: Program, out: &mut [u8], at: usize) -> usize
-    ensures { Poured out.old at (helpText program) out.new result }
+    ensures { Poured out.old at (help_text program) out.new result }
 {
     match program {
         Program::ListConditions => text::put_words(out, at, &LIST_CONDITIONS),

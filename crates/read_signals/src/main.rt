@@ -2,9 +2,9 @@
 // length FFFFh, with nothing after it, is a call with no telegram. For each call a line goes to standard output.
 ghost use Rattle.std.specs.Prelude.{◌≡◌, length};
 ghost use Rattle.kit.specs.Put.{Poured};
-ghost use Rattle.outcomes.specs.Ends.{whereShort};
-ghost use Rattle.signals.specs.Signals.{updateOf};
-ghost use Rattle.signals_output.specs.Lines.{shortCallLine};
+ghost use Rattle.outcomes.specs.Ends.{where_short};
+ghost use Rattle.signals.specs.Signals.{update_of};
+ghost use Rattle.signals_output.specs.Lines.{short_call_line};
 
 use libc::STDOUT_FILENO;
 use outcomes::{End, Progress};
@@ -126,7 +126,7 @@ fn read_call(source: Source, name: &[u8], bytes: &mut [u8]) -> Input
 
 // Hands one call to the record, which is lent for it, and shows the answer.
 fn take(signals: Signals, present: bool, telegram: &[u8]) -> Taken
-    ensures { result.signals ≡ (updateOf signals present telegram.now).signals }
+    ensures { result.signals ≡ (update_of signals present telegram.now).signals }
 {
     let updated = signals_in_place::lend_and_update(signals, present, telegram);
     let written = show_line(updated);
@@ -145,7 +145,7 @@ fn show_line(updated: Updated) -> bool {
 
 // Puts the line on a call that is not whole, where the input has ended inside one; after a read that failed, nothing.
 fn put_end(end: End, line: &mut [u8]) -> usize
-    ensures { Poured line.old 0 (whereShort end shortCallLine) line.new result }
+    ensures { Poured line.old 0 (where_short end short_call_line) line.new result }
 {
     if outcomes::is_short(end) {
         return signals_output::put_short(line, 0);

@@ -13,9 +13,9 @@ same [] (y ∷ b) = false
 same (x ∷ a) [] = false
 same (x ∷ a) (y ∷ b) = eqb x y && same a b
 
-pub same-equal : (a b : List ℕ) → same a b ≡ true → a ≡ b
+pub same_equal : (a b : List ℕ) → same a b ≡ true → a ≡ b
 unfolding same
-same-equal [] [] e = refl
-same-equal [] (y ∷ b) e = absurd (clash e refl)
-same-equal (x ∷ a) [] e = absurd (clash e refl)
-same-equal (x ∷ a) (y ∷ b) e = given (and_both (eqb x y) (same a b) e) (λ (here, there). ap₂ ◌∷◌ (eqb-true x y here) (same-equal a b there))
+same_equal [] [] e = refl
+same_equal [] (y ∷ b) e = absurd (clash e refl)
+same_equal (x ∷ a) [] e = absurd (clash e refl)
+same_equal (x ∷ a) (y ∷ b) e = given (and_both (eqb x y) (same a b) e) (λ (here, there). ap₂ ◌∷◌ (eqb-true x y here) (same_equal a b there))

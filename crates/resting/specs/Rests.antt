@@ -8,17 +8,17 @@ use Rattle.wire.specs.Steps.{gap_of}
 use Rattle.resting.specs.declared.Ended.{Ended}
 
 -- A-40: an entry of the ended numbers that says nothing
-abbrev pub noneEnded : Ended
-noneEnded = record { number = 0; step = 0 }
+abbrev pub none_ended : Ended
+none_ended = record { number = 0; step = 0 }
 
 -- D-12: entry i of the ended numbers
-abbrev pub endedAt : List Ended → ℕ → Ended
-endedAt ended i = get_or ended i noneEnded
+abbrev pub ended_at : List Ended → ℕ → Ended
+ended_at ended i = get_or ended i none_ended
 
 -- D-12: an order that had the number ended in this step or in one of the rest - 1 before
-unfoldable pub restsBy : ℕ → ℕ → ℕ → Ended → Bool
-restsBy rest step number entry = eqb entry.number number && ltb (gap_of step entry.step) rest
+unfoldable pub rests_by : ℕ → ℕ → ℕ → Ended → Bool
+rests_by rest step number entry = eqb entry.number number && ltb (gap_of step entry.step) rest
 
 -- D-12: the same of one of the ended numbers that are kept
-unfoldable pub isResting : ℕ → ℕ → List Ended → ℕ → Bool
-isResting rest step ended number = any (λ i. restsBy rest step number (endedAt ended i)) 0 (length ended)
+unfoldable pub is_resting : ℕ → ℕ → List Ended → ℕ → Bool
+is_resting rest step ended number = any (λ i. rests_by rest step number (ended_at ended i)) 0 (length ended)

@@ -1,7 +1,7 @@
 // Which numbers rest: those that ended lately, each with the step in which it did. How many steps a number rests is a figure that
 // the desk hands in.
 ghost use Rattle.std.specs.Prelude.{true, cond, ◌≡◌, ◌<◌};
-ghost use Rattle.resting.specs.Rests.{noneEnded, restsBy, isResting};
+ghost use Rattle.resting.specs.Rests.{none_ended, rests_by, is_resting};
 
 // How many numbers can have ended and still be kept.
 pub const KEPT: usize = 160;
@@ -15,7 +15,7 @@ pub struct Ended {
 
 impl Ended {
     pub fn none() -> Self
-        ensures { result ≡ noneEnded }
+        ensures { result ≡ none_ended }
     {
         Ended { number: 0, step: 0 }
     }
@@ -23,7 +23,7 @@ impl Ended {
 
 // Whether a number rests in this step because of this entry.
 fn rests_by(entry: Ended, rest: u16, step: u16, number: u8) -> bool
-    ensures { result ≡ restsBy rest step number entry }
+    ensures { result ≡ rests_by rest step number entry }
 {
     if entry.number != number {
         return false;
@@ -44,7 +44,7 @@ fn either(one: bool, other: bool) -> bool
 // Whether a number rests in this step. All entries are looked at, from the last to the first: a machine judges several at once, and
 // there is no branch to guess wrong.
 pub fn is_resting(ended: [Ended; 160], rest: u16, step: u16, number: u8) -> bool
-    ensures { result ≡ isResting rest step ended number }
+    ensures { result ≡ is_resting rest step ended number }
 {
     let mut rests = false;
     let mut i: usize = KEPT;

@@ -2,9 +2,9 @@
 // standard output as five telegrams; for each refused one a line goes to error output.
 ghost use Rattle.std.specs.Prelude.{◌≡◌, length};
 ghost use Rattle.kit.specs.Put.{Poured};
-ghost use Rattle.outcomes.specs.Ends.{whereShort};
-ghost use Rattle.desk.specs.Desks.{baseRest, acceptOf, Made};
-ghost use Rattle.desk_output.specs.Outputs.{shortListLine};
+ghost use Rattle.outcomes.specs.Ends.{where_short};
+ghost use Rattle.desk.specs.Desks.{base_rest, accept_of, Made};
+ghost use Rattle.desk_output.specs.Outputs.{short_list_line};
 
 use desk::Desk;
 use libc::{STDERR_FILENO, STDOUT_FILENO};
@@ -114,7 +114,7 @@ fn read_list(source: Source, name: &[u8], bytes: &mut [u8]) -> Input
 // Hands one list to the desk and shows its answer.
 fn take(desk: Desk, list: &[u8], lists: u64) -> Taken
     requires { Made desk }
-    ensures { result.desk ≡ (acceptOf baseRest desk list.now).desk }
+    ensures { result.desk ≡ (accept_of base_rest desk list.now).desk }
 {
     let answer = desk.accept(list);
     let verdict = answer.verdict;
@@ -143,7 +143,7 @@ fn show_refused(number: u8, lists: u64) -> bool {
 
 // Puts the line on a list that is not whole, where the input has ended inside one; after a read that failed, nothing.
 fn put_end(end: End, line: &mut [u8]) -> usize
-    ensures { Poured line.old 0 (whereShort end shortListLine) line.new result }
+    ensures { Poured line.old 0 (where_short end short_list_line) line.new result }
 {
     if outcomes::is_short(end) {
         return desk_output::put_short(line, 0);

@@ -4,26 +4,26 @@ use mathlib.Core.Path.{◌≡◌, refl}
 use mathlib.Core.List.{List, [], ◌++◌, append_assoc}
 use lib.ListN.{length, take, drop}
 use Rattle.kit.specs.Bytes.{word_at}
-use Rattle.frames.specs.Frames.{Framed, wholeSize, calls_of, shortTail}
-use Rattle.frames.proofs.Splitting.{calls-more, tail_more, calls-none, tail-short, calls-end, tail-end}
+use Rattle.frames.specs.Frames.{Framed, whole_size, calls_of, short_tail}
+use Rattle.frames.proofs.Splitting.{calls_more, tail_more, calls_none, tail-short, calls_end, tail-end}
 use Rattle.signals.specs.declared.Signals.{Signals}
-use Rattle.signals_output.specs.Lines.{line_of, shortCallLine}
-use Rattle.signal_runs.specs.Runs.{noTelegram, updatedBy, signalLinesFrom, signalLinesWith}
+use Rattle.signals_output.specs.Lines.{line_of, short_call_line}
+use Rattle.signal_runs.specs.Runs.{no_telegram, updated_by, signal_lines_from, signal_lines_with}
 
 module _ (signals : Signals) (input : List ℕ) where
-  module _ (size : ℕ) (sized : size ≡ wholeSize noTelegram input) where
+  module _ (size : ℕ) (sized : size ≡ whole_size no_telegram input) where
     -- with the call's length and bytes, as they stand there
     pub lines_more : (call : Framed) → 1 ≤ size → (word_at input 0, take (size - 2) (drop 2 input)) ≡ call
-        → signalLinesWith signals input ≡ line_of (updatedBy signals call) ++ signalLinesWith (updatedBy signals call).signals (drop size input)
-    unfolding signalLinesWith signalLinesFrom
+        → signal_lines_with signals input ≡ line_of (updated_by signals call) ++ signal_lines_with (updated_by signals call).signals (drop size input)
+    unfolding signal_lines_with signal_lines_from
     lines_more call some e =
-        rw (calls-more noTelegram input size sized some, tail_more noTelegram input size sized some shortCallLine, e)
-        (append_assoc (line_of (updatedBy signals call)) (signalLinesFrom (updatedBy signals call).signals (calls_of noTelegram (drop size input))) (shortTail noTelegram shortCallLine (drop size input)))
+        rw (calls_more no_telegram input size sized some, tail_more no_telegram input size sized some short_call_line, e)
+        (append_assoc (line_of (updated_by signals call)) (signal_lines_from (updated_by signals call).signals (calls_of no_telegram (drop size input))) (short_tail no_telegram short_call_line (drop size input)))
 
-    pub lines-short : size ≡ 0 → 1 ≤ length input → signalLinesWith signals input ≡ shortCallLine
-    unfolding signalLinesWith signalLinesFrom
-    lines-short none some = rw (calls-none noTelegram input size sized none, tail-short noTelegram input size sized none shortCallLine some) refl
+    pub lines-short : size ≡ 0 → 1 ≤ length input → signal_lines_with signals input ≡ short_call_line
+    unfolding signal_lines_with signal_lines_from
+    lines-short none some = rw (calls_none no_telegram input size sized none, tail-short no_telegram input size sized none short_call_line some) refl
 
-  pub lines_end : length input ≡ 0 → signalLinesWith signals input ≡ []
-  unfolding signalLinesWith signalLinesFrom
-  lines_end end = rw (calls-end noTelegram input end, tail-end noTelegram input end shortCallLine) refl
+  pub lines_end : length input ≡ 0 → signal_lines_with signals input ≡ []
+  unfolding signal_lines_with signal_lines_from
+  lines_end end = rw (calls_end no_telegram input end, tail-end no_telegram input end short_call_line) refl

@@ -3,7 +3,7 @@
 ghost use Rattle.std.specs.Prelude.{◌≡◌};
 ghost use Rattle.kit.specs.Put.{Poured};
 ghost use Rattle.signals_output.specs.Lines.{line_of};
-ghost use Rattle.signal_runs.specs.Runs.{updatedBy, signalLines};
+ghost use Rattle.signal_runs.specs.Runs.{updated_by, signal_lines};
 
 use signals::Signals;
 
@@ -19,8 +19,8 @@ struct Spoken {
 
 // One call: its line, and the next record. The record is lent for the call and updated where it is.
 fn tell(signals: Signals, announced: u16, bytes: &[u8], lines: &mut [u8], at: usize) -> Spoken
-    ensures { (result.signals ≡ (updatedBy signals (announced, bytes.now)).signals)
-        × Poured lines.old at (line_of (updatedBy signals (announced, bytes.now))) lines.new result.at }
+    ensures { (result.signals ≡ (updated_by signals (announced, bytes.now)).signals)
+        × Poured lines.old at (line_of (updated_by signals (announced, bytes.now))) lines.new result.at }
 {
     let updated = signals_in_place::lend_and_update(signals, announced != NO_TELEGRAM, bytes);
     let next = updated.signals;
@@ -34,7 +34,7 @@ fn tell(signals: Signals, announced: u16, bytes: &[u8], lines: &mut [u8], at: us
 // The lines of all calls, from a fresh record on, and `short call` where the input ends inside one; the answer is the place past them.
 // What has no room before the buffer's end is dropped.
 pub fn read(input: &[u8], lines: &mut [u8]) -> usize
-    ensures { Poured lines.old 0 (signalLines input.now) lines.new result }
+    ensures { Poured lines.old 0 (signal_lines input.now) lines.new result }
 {
     let mut signals = Signals::fresh();
     let mut rest = input;

@@ -2,7 +2,7 @@
 use Prim.Native.Nat.{ℕ}
 use mathlib.Core.Path.{◌≡◌, refl, ap, ap₂}
 use native.Mathlib.Omega.{arith}
-use Rattle.signals.specs.Answers.{Receipt, was-accepted, was-missed, was-refused, Noted, acceptance, absence, refusalUnder, noted_of, Updating, updatingOf}
+use Rattle.signals.specs.Answers.{Receipt, was-accepted, was-missed, was_refused_lem, Noted, acceptance, absence, refusal_under, noted_of, Updating, updating_of}
 use Rattle.signals.specs.declared.Answer.{Answer}
 use Rattle.signals.specs.declared.Answer.TheVariants.{Accepted, Missed, Refused}
 use Rattle.signals.specs.declared.Signals.{Signals}
@@ -12,18 +12,18 @@ use Rattle.signals.specs.declared.Updated.{Updated}
 rank : Receipt → ℕ
 rank was-accepted = 0
 rank was-missed = 1
-rank was-refused = 2
+rank was_refused_lem = 2
 
 ranks : {one other : Noted} → one ≡ other → rank one.receipt ≡ rank other.receipt
 ranks e = ap (λ (n : Noted). rank n.receipt) e
 
-pub absence-no-acceptance : absence ≡ acceptance → ⊥
+pub absence_no_acceptance : absence ≡ acceptance → ⊥
 unfolding rank
-absence-no-acceptance e = omega (arith, ranks e)
+absence_no_acceptance e = omega (arith, ranks e)
 
-pub acceptance-no-refusal : (number : ℕ) → acceptance ≡ refusalUnder number → ⊥
+pub acceptance_no_refusal : (number : ℕ) → acceptance ≡ refusal_under number → ⊥
 unfolding rank
-acceptance-no-refusal number e = omega (arith, ranks e)
+acceptance_no_refusal number e = omega (arith, ranks e)
 
 -- C-12: every two answers are told apart
 pub noted-apart : (one other : Answer) → noted_of one ≡ noted_of other → one ≡ other
@@ -39,8 +39,8 @@ noted-apart (Refused number) Missed e = absurd (omega (arith, ranks e))
 noted-apart (Refused number) (Refused same) e = ap Refused (ap (λ (n : Noted). n.number) e)
 
 -- and so are every two outcomes
-pub updating-apart : (one other : Updated) → updatingOf one ≡ updatingOf other → one ≡ other
-updating-apart one other e =
+pub updating_apart : (one other : Updated) → updating_of one ≡ updating_of other → one ≡ other
+updating_apart one other e =
     ap₂ (λ (answer : Answer) (signals : Signals). record { answer = answer; signals = signals })
     (noted-apart one.answer other.answer (ap (λ (u : Updating). u.noted) e))
     (ap (λ (u : Updating). u.signals) e)

@@ -10,7 +10,7 @@ use Rattle.signals.specs.declared.Updated.{Updated}
 pub data Receipt : Type 0 where
   was-accepted : Receipt
   was-missed : Receipt
-  was-refused : Receipt
+  was_refused_lem : Receipt
 
 -- C-12: which of the three it was, and the number of the refusal, 0 where nothing is refused
 pub record Noted : Type 0 where
@@ -23,19 +23,19 @@ acceptance = record { receipt = was-accepted; number = 0 }
 abbrev pub absence : Noted
 absence = record { receipt = was-missed; number = 0 }
 
-abbrev pub refusalUnder : ℕ → Noted
-refusalUnder number = record { receipt = was-refused; number = number }
+abbrev pub refusal_under : ℕ → Noted
+refusal_under number = record { receipt = was_refused_lem; number = number }
 
 -- C-12: what each case of the code's enum tells
 abbrev pub noted_of : Answer → Noted
 noted_of Accepted = acceptance
 noted_of Missed = absence
-noted_of (Refused number) = refusalUnder number
+noted_of (Refused number) = refusal_under number
 
 -- M-1b: what a call comes to: what its answer tells, and the next record
 pub record Updating : Type 0 where
   pub noted : Noted
   pub signals : Signals
 
-abbrev pub updatingOf : Updated → Updating
-updatingOf updated = record { noted = noted_of updated.answer; signals = updated.signals }
+abbrev pub updating_of : Updated → Updating
+updating_of updated = record { noted = noted_of updated.answer; signals = updated.signals }

@@ -1,7 +1,7 @@
 // The record of signals from the train: what each call makes of it, a call with a telegram and one without.
 ghost use Rattle.std.specs.Prelude.{◌≡◌};
-ghost use Rattle.signals.specs.Answers.{updatingOf};
-ghost use Rattle.signals.specs.Signals.{freshSignals, missedBy, updateOf};
+ghost use Rattle.signals.specs.Answers.{updating_of};
+ghost use Rattle.signals.specs.Signals.{fresh_signals, missed_by, update_of};
 
 use train_telegram::States;
 use wire::Verdict;
@@ -33,7 +33,7 @@ pub struct Updated {
 
 // The record after a miss.
 fn missed(signals: Signals) -> Signals
-    ensures { result ≡ missedBy signals }
+    ensures { result ≡ missed_by signals }
 {
     let states = signals.states;
     if signals.misses < MISSES_MOST - 1 {
@@ -51,7 +51,7 @@ fn missed(signals: Signals) -> Signals
 impl Signals {
     // Silent, and no miss yet.
     pub fn fresh() -> Self
-        ensures { result ≡ freshSignals }
+        ensures { result ≡ fresh_signals }
     {
         Signals {
             states: States::silent(),
@@ -61,7 +61,7 @@ impl Signals {
 
     // One call: with a telegram of any bytes and any length, or with none. Where none is present the bytes are not looked at.
     pub fn update(self, present: bool, telegram: &[u8]) -> Updated
-        ensures { updatingOf result ≡ updateOf self present telegram.now }
+        ensures { updating_of result ≡ update_of self present telegram.now }
     {
         if !present {
             return Updated {

@@ -19,8 +19,8 @@ use Rattle.signals.proofs.Answer.TheLaws as SaidLaws
 abbrev pub held-value : Signals → Val
 held-value = StructLaws.val Held.the_type HeldLaws.the_laws
 
-abbrev pub held-values : Signals → List Val
-held-values signals = held-value signals ∷ []
+abbrev pub held_values : Signals → List Val
+held_values signals = held-value signals ∷ []
 
 abbrev pub answer-value : Answer → Val
 answer-value = EnumLaws.val Said.the_type SaidLaws.the_laws
@@ -29,16 +29,16 @@ abbrev pub both-value : Updated → Val
 both-value = StructLaws.val Both.the_type BothLaws.the_laws
 
 -- whoever holds both knows each
-pub knows-answer : (both : Updated) (u : Val) → Is Both.the_row both (u ∷ []) → Is Said.the_row both.answer (answer-value both.answer ∷ [])
-knows-answer both u is = (StructLaws.owed Both.the_type BothLaws.the_laws both _ is).0
+pub knows_answer : (both : Updated) (u : Val) → Is Both.the_row both (u ∷ []) → Is Said.the_row both.answer (answer-value both.answer ∷ [])
+knows_answer both u is = (StructLaws.owed Both.the_type BothLaws.the_laws both _ is).0
 
-pub knows-held : (both : Updated) (u : Val) → Is Both.the_row both (u ∷ []) → Is Held.the_row both.signals (held-values both.signals)
-knows-held both u is = (StructLaws.owed Both.the_type BothLaws.the_laws both _ is).1.0
+pub knows_held : (both : Updated) (u : Val) → Is Both.the_row both (u ∷ []) → Is Held.the_row both.signals (held_values both.signals)
+knows_held both u is = (StructLaws.owed Both.the_type BothLaws.the_laws both _ is).1.0
 
 -- and whoever knows each knows both
 abbrev pub both_of : Answer → Signals → Updated
 both_of answer signals = record { answer = answer; signals = signals }
 
-pub knows_both : (answer : Answer) (signals : Signals) → Is Said.the_row answer (answer-value answer ∷ []) → Is Held.the_row signals (held-values signals)
+pub knows_both : (answer : Answer) (signals : Signals) → Is Said.the_row answer (answer-value answer ∷ []) → Is Held.the_row signals (held_values signals)
     → Is Both.the_row (both_of answer signals) (StructLaws.vals Both.the_type BothLaws.the_laws (both_of answer signals))
 knows_both answer signals is-answer is_held_lem = StructLaws.owes Both.the_type BothLaws.the_laws (both_of answer signals) (is-answer, (is_held_lem, tt))

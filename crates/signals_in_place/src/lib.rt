@@ -1,14 +1,14 @@
 // The record of signals belongs to the host, and each call updates it where it is.
 ghost use Rattle.std.specs.Prelude.{◌≡◌};
-ghost use Rattle.signals.specs.Answers.{noted_of, updatingOf};
-ghost use Rattle.signals.specs.Signals.{updateOf};
+ghost use Rattle.signals.specs.Answers.{noted_of, updating_of};
+ghost use Rattle.signals.specs.Signals.{update_of};
 
 use signals::{Answer, Signals, Updated};
 
 // One call: the answer, and the lent record is the next one.
 pub fn update(held: &mut Signals, present: bool, telegram: &[u8]) -> Answer
-    ensures { (noted_of result ≡ (updateOf held.old present telegram.now).noted)
-        × (held.new ≡ (updateOf held.old present telegram.now).signals) }
+    ensures { (noted_of result ≡ (update_of held.old present telegram.now).noted)
+        × (held.new ≡ (update_of held.old present telegram.now).signals) }
 {
     let next = Signals::update(*held, present, telegram);
     *held = next.signals;
@@ -18,7 +18,7 @@ pub fn update(held: &mut Signals, present: bool, telegram: &[u8]) -> Answer
 // The same for a host that has the record in a variable of its own: it is lent for one call. Programs use this one, since a function
 // that lends a record needs a proof by hand, and here it is done once.
 pub fn lend_and_update(signals: Signals, present: bool, telegram: &[u8]) -> Updated
-    ensures { updatingOf result ≡ updateOf signals present telegram.now }
+    ensures { updating_of result ≡ update_of signals present telegram.now }
 {
     let mut held = signals;
     let answer = update(&mut held, present, telegram);

@@ -3,52 +3,52 @@ use Rattle.std.specs.Prelude.{ℕ, List, ◌∷◌, ◌++◌, get_or}
 use Rattle.kit.specs.Each.{each}
 use Rattle.kit.specs.Text.{ascii}
 use Rattle.text.specs.Decimals.{decimal}
-use Rattle.text.specs.Words.{blank, refusedWord}
-use Rattle.state_words.specs.Words.{cabWord, brakeWord, isolationWord, tractionWord}
-use Rattle.train_telegram.specs.States.{systemWith}
+use Rattle.text.specs.Words.{blank, refused_word}
+use Rattle.state_words.specs.Words.{cab_word, brake_word, isolation_word, traction_word}
+use Rattle.train_telegram.specs.States.{system_with}
 use Rattle.train_codes.specs.declared.Isolation.TheVariants as Isolation'
 use Rattle.train_telegram.specs.declared.states.National.{National}
 use Rattle.train_telegram.specs.declared.states.States.{States}
-use Rattle.signals.specs.Answers.{Receipt, was-accepted, was-missed, was-refused, Noted, Updating}
+use Rattle.signals.specs.Answers.{Receipt, was-accepted, was-missed, was_refused_lem, Noted, Updating}
 
 -- S-13, S-14: the words of an answer
-abbrev pub acceptedWord : List ℕ
-acceptedWord = ascii "accepted"
+abbrev pub accepted_word : List ℕ
+accepted_word = ascii "accepted"
 
-abbrev pub missedWord : List ℕ
-missedWord = ascii "missed"
+abbrev pub missed_word : List ℕ
+missed_word = ascii "missed"
 
 -- ---- the line
 
 -- S-13, S-14: the answer: `accepted`, `missed` or `refused N`
-abbrev pub receiptWords : Receipt → ℕ → List ℕ
-receiptWords was-accepted number = acceptedWord
-receiptWords was-missed number = missedWord
-receiptWords was-refused number = refusedWord ++ decimal number
+abbrev pub receipt_words : Receipt → ℕ → List ℕ
+receipt_words was-accepted number = accepted_word
+receipt_words was-missed number = missed_word
+receipt_words was_refused_lem number = refused_word ++ decimal number
 
-abbrev pub answerWords : Noted → List ℕ
-answerWords noted = receiptWords noted.receipt noted.number
+abbrev pub answer_words : Noted → List ℕ
+answer_words noted = receipt_words noted.receipt noted.number
 
 -- S-18: the miss count
-abbrev pub missesWord : ℕ → List ℕ
-missesWord misses = blank ∷ decimal misses
+abbrev pub misses_word : ℕ → List ℕ
+misses_word misses = blank ∷ decimal misses
 
 -- S-05: of system i + 1
-abbrev pub nationalWord : List National → ℕ → List ℕ
-nationalWord national i = isolationWord (get_or national i (systemWith Isolation'.Silent)).isolation
+abbrev pub national_word : List National → ℕ → List ℕ
+national_word national i = isolation_word (get_or national i (system_with Isolation'.Silent)).isolation
 
 -- cab, brake position, the sixteen systems from 1, the traction systems
-unfoldable pub stateWords : States → List ℕ
-stateWords states =
-    cabWord states.cab
-    ++ (brakeWord states.brake
-    ++ (each (nationalWord states.national) 0 16
-    ++ tractionWord states.traction))
+unfoldable pub state_words : States → List ℕ
+state_words states =
+    cab_word states.cab
+    ++ (brake_word states.brake
+    ++ (each (national_word states.national) 0 16
+    ++ traction_word states.traction))
 
 -- the answer, the miss count, the states, and a line feed
 unfoldable pub line_of : Updating → List ℕ
-line_of updating = answerWords updating.noted ++ (missesWord updating.signals.misses ++ (stateWords updating.signals.states ++ ascii "\n"))
+line_of updating = answer_words updating.noted ++ (misses_word updating.signals.misses ++ (state_words updating.signals.states ++ ascii "\n"))
 
 -- where the input ends inside a call
-unfoldable pub shortCallLine : List ℕ
-shortCallLine = ascii "short call\n"
+unfoldable pub short_call_line : List ℕ
+short_call_line = ascii "short call\n"

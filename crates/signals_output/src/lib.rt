@@ -5,8 +5,8 @@ ghost use Rattle.std.specs.Prelude.{length, ◌+◌, ◌≤◌};
 ghost use Rattle.kit.specs.Put.{Poured};
 ghost use Rattle.page.specs.Pages.{Paged};
 ghost use Rattle.kit.specs.Each.{each};
-ghost use Rattle.signals.specs.Answers.{noted_of, updatingOf};
-ghost use Rattle.signals_output.specs.Lines.{answerWords, missesWord, nationalWord, stateWords, line_of, shortCallLine};
+ghost use Rattle.signals.specs.Answers.{noted_of, updating_of};
+ghost use Rattle.signals_output.specs.Lines.{answer_words, misses_word, national_word, state_words, line_of, short_call_line};
 
 use signals::{Answer, Updated};
 use train_telegram::{National, States};
@@ -18,7 +18,7 @@ const LINE_FEED: u8 = b'\n';
 
 fn put_answer(answer: Answer, page: &mut [u8], at: usize) -> usize
     requires { at + 16 ≤ length page.old }
-    ensures { Paged 13 page.old at (answerWords (noted_of answer)) page.new result }
+    ensures { Paged 13 page.old at (answer_words (noted_of answer)) page.new result }
 {
     match answer {
         Answer::Accepted => page::put_short_text(page, at, b"accepted"),
@@ -32,7 +32,7 @@ fn put_answer(answer: Answer, page: &mut [u8], at: usize) -> usize
 
 fn put_misses(misses: u8, page: &mut [u8], at: usize) -> usize
     requires { at + 9 ≤ length page.old }
-    ensures { Paged 6 page.old at (missesWord misses) page.new result }
+    ensures { Paged 6 page.old at (misses_word misses) page.new result }
 {
     let next = page::put_byte(page, at, BLANK);
     page::put_bare_number(page, next, misses as u16)
@@ -41,7 +41,7 @@ fn put_misses(misses: u8, page: &mut [u8], at: usize) -> usize
 // The sixteen systems, from 1.
 fn put_national(national: [National; 16], page: &mut [u8], at: usize) -> usize
     requires { at + 256 ≤ length page.old }
-    ensures { Paged 256 page.old at (each (nationalWord national) 0 16) page.new result }
+    ensures { Paged 256 page.old at (each (national_word national) 0 16) page.new result }
 {
     let mut next = at;
     let mut i: usize = 0;
@@ -56,7 +56,7 @@ fn put_national(national: [National; 16], page: &mut [u8], at: usize) -> usize
 
 fn put_states(states: States, page: &mut [u8], at: usize) -> usize
     requires { at + 304 ≤ length page.old }
-    ensures { Paged 304 page.old at (stateWords states) page.new result }
+    ensures { Paged 304 page.old at (state_words states) page.new result }
 {
     let cab = states.cab;
     let brake = states.brake;
@@ -70,7 +70,7 @@ fn put_states(states: States, page: &mut [u8], at: usize) -> usize
 
 // The answer to a call and the record after it, made on a page and copied from it.
 pub fn put_line(updated: Updated, line: &mut [u8], at: usize) -> usize
-    ensures { Poured line.old at (line_of (updatingOf updated)) line.new result }
+    ensures { Poured line.old at (line_of (updating_of updated)) line.new result }
 {
     let answer = updated.answer;
     let signals = updated.signals;
@@ -85,7 +85,7 @@ pub fn put_line(updated: Updated, line: &mut [u8], at: usize) -> usize
 
 // `short call` and a line feed.
 pub fn put_short(line: &mut [u8], at: usize) -> usize
-    ensures { Poured line.old at shortCallLine line.new result }
+    ensures { Poured line.old at short_call_line line.new result }
 {
     text::put_words(line, at, b"short call\n")
 }

@@ -1,8 +1,8 @@
 // The words for the states of signals on a page, each with a blank before it.
 ghost use Rattle.std.specs.Prelude.{◌≡◌, length, ◌+◌, ◌≤◌};
 ghost use Rattle.page.specs.Pages.{Paged};
-ghost use Rattle.page.specs.Words.{bytesOfWord};
-ghost use Rattle.state_words.specs.Words.{cabWord, brakeWord, isolationWord, tractionWord};
+ghost use Rattle.page.specs.Words.{bytes_of_word};
+ghost use Rattle.state_words.specs.Words.{cab_word, brake_word, isolation_word, traction_word};
 
 use page::Word;
 use train_codes::{Brake, Cab, Isolation, Traction};
@@ -10,7 +10,7 @@ use train_codes::{Brake, Cab, Isolation, Traction};
 const BLANK: u8 = b' ';
 
 fn cab_word(cab: Cab) -> Word
-    ensures { bytesOfWord result ≡ cabWord cab }
+    ensures { bytes_of_word result ≡ cab_word cab }
 {
     match cab {
         Cab::Silent => page::word_of(b" silent"),
@@ -22,7 +22,7 @@ fn cab_word(cab: Cab) -> Word
 }
 
 fn brake_word(brake: Brake) -> Word
-    ensures { bytesOfWord result ≡ brakeWord brake }
+    ensures { bytes_of_word result ≡ brake_word brake }
 {
     match brake {
         Brake::Silent => page::word_of(b" silent"),
@@ -35,7 +35,7 @@ fn brake_word(brake: Brake) -> Word
 }
 
 fn isolation_word(isolation: Isolation) -> Word
-    ensures { bytesOfWord result ≡ isolationWord isolation }
+    ensures { bytes_of_word result ≡ isolation_word isolation }
 {
     match isolation {
         Isolation::Silent => page::word_of(b" silent"),
@@ -47,28 +47,28 @@ fn isolation_word(isolation: Isolation) -> Word
 
 pub fn put_cab(cab: Cab, page: &mut [u8], at: usize) -> usize
     requires { at + 16 ≤ length page.old }
-    ensures { Paged 16 page.old at (cabWord cab) page.new result }
+    ensures { Paged 16 page.old at (cab_word cab) page.new result }
 {
     page::put_word(page, at, cab_word(cab))
 }
 
 pub fn put_brake(brake: Brake, page: &mut [u8], at: usize) -> usize
     requires { at + 16 ≤ length page.old }
-    ensures { Paged 16 page.old at (brakeWord brake) page.new result }
+    ensures { Paged 16 page.old at (brake_word brake) page.new result }
 {
     page::put_word(page, at, brake_word(brake))
 }
 
 pub fn put_isolation(isolation: Isolation, page: &mut [u8], at: usize) -> usize
     requires { at + 16 ≤ length page.old }
-    ensures { Paged 16 page.old at (isolationWord isolation) page.new result }
+    ensures { Paged 16 page.old at (isolation_word isolation) page.new result }
 {
     page::put_word(page, at, isolation_word(isolation))
 }
 
 pub fn put_traction(traction: Traction, page: &mut [u8], at: usize) -> usize
     requires { at + 16 ≤ length page.old }
-    ensures { Paged 16 page.old at (tractionWord traction) page.new result }
+    ensures { Paged 16 page.old at (traction_word traction) page.new result }
 {
     match traction {
         Traction::Silent => page::put_short_text(page, at, b" silent"),

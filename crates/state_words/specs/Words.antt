@@ -13,68 +13,68 @@ use Rattle.train_codes.specs.declared.Traction.{Traction}
 use Rattle.train_codes.specs.declared.Traction.TheVariants as Traction'
 
 -- S-16
-abbrev pub silentWord : List ℕ
-silentWord = ascii " silent"
+abbrev pub silent_word : List ℕ
+silent_word = ascii " silent"
 
 -- S-12
 abbrev pub invalid : List ℕ
 invalid = ascii " invalid"
 
 -- S-09
-abbrev pub noneWord : List ℕ
-noneWord = ascii " none"
+abbrev pub none_word : List ℕ
+none_word = ascii " none"
 
-abbrev pub cabA : List ℕ
-cabA = ascii " A"
+abbrev pub cab_a : List ℕ
+cab_a = ascii " A"
 
-abbrev pub cabB : List ℕ
-cabB = ascii " B"
+abbrev pub cab_b : List ℕ
+cab_b = ascii " B"
 
 -- S-10
-abbrev pub passengerP : List ℕ
-passengerP = ascii " passenger-P"
+abbrev pub passenger_p : List ℕ
+passenger_p = ascii " passenger-P"
 
-abbrev pub freightP : List ℕ
-freightP = ascii " freight-P"
+abbrev pub freight_p : List ℕ
+freight_p = ascii " freight-P"
 
-abbrev pub freightG : List ℕ
-freightG = ascii " freight-G"
+abbrev pub freight_g : List ℕ
+freight_g = ascii " freight-G"
 
 abbrev pub unknown : List ℕ
 unknown = ascii " unknown"
 
 -- S-11
-abbrev pub isolatedWord : List ℕ
-isolatedWord = ascii " isolated"
+abbrev pub isolated_word : List ℕ
+isolated_word = ascii " isolated"
 
-abbrev pub notIsolatedWord : List ℕ
-notIsolatedWord = ascii " not-isolated"
+abbrev pub not_isolated_word : List ℕ
+not_isolated_word = ascii " not-isolated"
 
 -- S-09
-abbrev pub cabWord : Cab → List ℕ
-cabWord Cab'.Silent = silentWord
-cabWord Cab'.None = noneWord
-cabWord Cab'.A = cabA
-cabWord Cab'.B = cabB
-cabWord Cab'.Invalid = invalid
+abbrev pub cab_word : Cab → List ℕ
+cab_word Cab'.Silent = silent_word
+cab_word Cab'.None = none_word
+cab_word Cab'.A = cab_a
+cab_word Cab'.B = cab_b
+cab_word Cab'.Invalid = invalid
 
 -- S-10
-abbrev pub brakeWord : Brake → List ℕ
-brakeWord Brake'.Silent = silentWord
-brakeWord Brake'.PassengerInP = passengerP
-brakeWord Brake'.FreightInP = freightP
-brakeWord Brake'.FreightInG = freightG
-brakeWord Brake'.Unknown = unknown
-brakeWord Brake'.Invalid = invalid
+abbrev pub brake_word : Brake → List ℕ
+brake_word Brake'.Silent = silent_word
+brake_word Brake'.PassengerInP = passenger_p
+brake_word Brake'.FreightInP = freight_p
+brake_word Brake'.FreightInG = freight_g
+brake_word Brake'.Unknown = unknown
+brake_word Brake'.Invalid = invalid
 
 -- S-11
-abbrev pub isolationWord : Isolation → List ℕ
-isolationWord Isolation'.Silent = silentWord
-isolationWord Isolation'.Isolated = isolatedWord
-isolationWord Isolation'.NotIsolated = notIsolatedWord
-isolationWord Isolation'.Invalid = invalid
+abbrev pub isolation_word : Isolation → List ℕ
+isolation_word Isolation'.Silent = silent_word
+isolation_word Isolation'.Isolated = isolated_word
+isolation_word Isolation'.NotIsolated = not_isolated_word
+isolation_word Isolation'.Invalid = invalid
 
 -- S-07: eight digits of the list, or silent
-abbrev pub tractionWord : Traction → List ℕ
-tractionWord Traction'.Silent = silentWord
-tractionWord (Traction'.Supported systems) = blank ∷ hexadecimal 8 systems
+abbrev pub traction_word : Traction → List ℕ
+traction_word Traction'.Silent = silent_word
+traction_word (Traction'.Supported systems) = blank ∷ hexadecimal 8 systems

@@ -5,23 +5,23 @@ use mathlib.Core.List.{List, [], ◌∷◌, ◌++◌}
 use lib.ListN.{replicate}
 use Rattle.kit.specs.Each.{each}
 use Rattle.kit.specs.Ladder.{ladder}
-use Rattle.kit.specs.Loops.{scan, fold, howMany}
+use Rattle.kit.specs.Loops.{scan, fold, how_many}
 use Rattle.kit.specs.Text.{ascii}
 use Rattle.wire.specs.Steps.{gap_of}
-use Rattle.wire.specs.Verdicts.{verdictOf}
-use Rattle.kinds.specs.Words.{secondAllowed, secondHeld, isConsidered}
-use Rattle.condition.specs.Slots.{body_of, slotRows, codedOf}
-use Rattle.telegram.specs.Telegrams.{readRows, codedAt, takenBefore, telegramOf, read_of}
+use Rattle.wire.specs.Verdicts.{verdict_of}
+use Rattle.kinds.specs.Words.{second_allowed, second_held, is_considered}
+use Rattle.condition.specs.Slots.{body_of, slot_rows, coded_of}
+use Rattle.telegram.specs.Telegrams.{read_rows, coded_at, taken_before, telegram_of, read_of}
 use Rattle.text.specs.Decimals.{digits, decimal}
-use Rattle.hand.specs.Sets.{begun, setFor, is_held, joined, is_whole}
-use Rattle.picture.specs.Pictures.{count_of, bearsNumber, isTwice, clashes}
-use Rattle.marks.specs.Marks.{isSame, isKnown, isCarried, marksOf}
-use Rattle.listener.specs.Listeners.{freshListener, takenBy, heardOf, hearOf}
-use Rattle.lister.specs.Hearings.{cut, telegramsIn, tailOf, listenerThrough, tablesTaken}
-use Rattle.lister.specs.Pieces.{begunLister, keeping, take_of}
-use Rattle.summary.specs.Counts.{toldThrough, howManyTold, firstFrom, forEachNumber, tally_of}
-use Rattle.summary.specs.Summaries.{countLines, refusalLine, refusalPart, refusalParts, packetPart, packetParts, unfinishedLine, unfinishedPart, tailPart, summaryOf}
-use Rattle.summary.specs.Tallies.{counted, countedAll, countedPiece}
+use Rattle.hand.specs.Sets.{begun, set_for, is_held, joined, is_whole}
+use Rattle.picture.specs.Pictures.{count_of, bears_number, is_twice, clashes}
+use Rattle.marks.specs.Marks.{is_same, is_known, is_carried, marks_of}
+use Rattle.listener.specs.Listeners.{fresh_listener, taken_by, heard_of, hear_of}
+use Rattle.lister.specs.Hearings.{cut, telegrams_in, tail_of, listener_through, tables_taken}
+use Rattle.lister.specs.Pieces.{begun_lister, keeping, take_of}
+use Rattle.summary.specs.Counts.{told_through, how_many_told, first_from, for_each_number, tally_of}
+use Rattle.summary.specs.Summaries.{count_lines, refusal_line, refusal_part, refusal_parts, packet_part, packet_parts, unfinished_line, unfinished_part, tail_part, summary_of}
+use Rattle.summary.specs.Tallies.{counted, counted_all, counted_piece}
 
 -- a telegram of this packet and step with no condition, by its first two bytes
 abbrev bare : ℕ → ℕ → List ℕ
@@ -35,7 +35,7 @@ recording =
     ++ (bare 0x80 1
     ++ (bare 0xA0 1 ++ (bare 0xC0 1 ++ (bare 0xE0 1 ++ (bare 0x60 1 ++ (bare 0 0 ++ (bare 0x60 2 ++ (bare 0xA0 2 ++ replicate 7 0)))))))))
 
-pub example : summaryOf (countedPiece (tally_of []) begunLister recording) (take_of begunLister recording)
+pub example : summary_of (counted_piece (tally_of []) begun_lister recording) (take_of begun_lister recording)
     ≡ ascii "telegrams 10\ntables 1\nrepeats 1\nrefused 11: 2, first at telegram 1\nunfinished: step 2, packets 3 5\ntail of 7 bytes\n"
-unfolding summaryOf countLines refusalLine refusalPart refusalParts packetPart packetParts unfinishedLine unfinishedPart tailPart counted countedAll countedPiece toldThrough howManyTold firstFrom forEachNumber tally_of begunLister keeping take_of cut telegramsIn tailOf listenerThrough tablesTaken freshListener takenBy heardOf hearOf isSame isKnown isCarried marksOf count_of bearsNumber isTwice clashes begun setFor is_held joined is_whole digits decimal readRows codedAt takenBefore telegramOf read_of body_of slotRows codedOf secondAllowed secondHeld isConsidered verdictOf gap_of scan fold howMany ladder each
+unfolding summary_of count_lines refusal_line refusal_part refusal_parts packet_part packet_parts unfinished_line unfinished_part tail_part counted counted_all counted_piece told_through how_many_told first_from for_each_number tally_of begun_lister keeping take_of cut telegrams_in tail_of listener_through tables_taken fresh_listener taken_by heard_of hear_of is_same is_known is_carried marks_of count_of bears_number is_twice clashes begun set_for is_held joined is_whole digits decimal read_rows coded_at taken_before telegram_of read_of body_of slot_rows coded_of second_allowed second_held is_considered verdict_of gap_of scan fold how_many ladder each
 example = refl

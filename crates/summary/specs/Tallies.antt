@@ -2,48 +2,48 @@
 -- to the counts of Counts.antt, whatever the pieces.
 use Rattle.std.specs.Prelude.{ℕ, ◌+◌, Bool, cond, List, [], ◌∷◌, eqb, get_or, set}
 use Rattle.listener.specs.Answers.{Told}
-use Rattle.lister.specs.Hearings.{telegramsIn}
-use Rattle.lister.specs.Pieces.{afterKept, take_of}
+use Rattle.lister.specs.Hearings.{telegrams_in}
+use Rattle.lister.specs.Pieces.{after_kept, take_of}
 use Rattle.lister.specs.declared.Lister.{Lister}
-use Rattle.summary.specs.Counts.{toldThrough, tookTable, wasRepeat, wasRefused, upToMost}
+use Rattle.summary.specs.Counts.{told_through, took_table, was_repeat, was_refused, up_to_most}
 use Rattle.summary.specs.declared.Tally.{Tally}
 
 -- Q-104: one more
-abbrev pub oneMore : ℕ → ℕ
-oneMore count = upToMost (count + 1)
+abbrev pub one_more : ℕ → ℕ
+one_more count = up_to_most (count + 1)
 
 -- the position that is known, or where none is this one
-abbrev pub knownOr : ℕ → ℕ → ℕ
-knownOr first place = cond (eqb first 0) place first
+abbrev pub known_or : ℕ → ℕ → ℕ
+known_or first place = cond (eqb first 0) place first
 
 -- one more, and a number stored in a row, where this is so; past the end of a row nothing is stored
-abbrev pub moreIf : Bool → ℕ → ℕ
-moreIf so count = cond so (oneMore count) count
+abbrev pub more_if : Bool → ℕ → ℕ
+more_if so count = cond so (one_more count) count
 
-abbrev pub storeIf : Bool → List ℕ → ℕ → ℕ → List ℕ
-storeIf so row at number = cond so (set row at number) row
+abbrev pub store_if : Bool → List ℕ → ℕ → ℕ → List ℕ
+store_if so row at number = cond so (set row at number) row
 
 -- C-12: one telegram more, and one more of what it was: a table, a repeat, or refused under its number, with its place where none is known
 unfoldable pub counted : Tally → Told → Tally
 counted tally told =
     record {
-      telegrams = oneMore tally.telegrams;
-      tables = moreIf (tookTable told) tally.tables;
-      repeats = moreIf (wasRepeat told) tally.repeats;
-      refused = storeIf (wasRefused told) tally.refused told.number (oneMore (get_or tally.refused told.number 0));
-      first = storeIf (wasRefused told) tally.first told.number (knownOr (get_or tally.first told.number 0) (oneMore tally.telegrams));
+      telegrams = one_more tally.telegrams;
+      tables = more_if (took_table told) tally.tables;
+      repeats = more_if (was_repeat told) tally.repeats;
+      refused = store_if (was_refused told) tally.refused told.number (one_more (get_or tally.refused told.number 0));
+      first = store_if (was_refused told) tally.first told.number (known_or (get_or tally.first told.number 0) (one_more tally.telegrams));
     }
 
 -- one after another
-unfoldable pub countedAll : Tally → List Told → Tally
-countedAll tally [] = tally
-countedAll tally (told ∷ more) = countedAll (counted tally told) more
+unfoldable pub counted_all : Tally → List Told → Tally
+counted_all tally [] = tally
+counted_all tally (told ∷ more) = counted_all (counted tally told) more
 
 -- G-01: with the telegrams that become whole with a piece, where `lister` is the state before it
-unfoldable pub countedPiece : Tally → Lister → List ℕ → Tally
-countedPiece tally lister piece = countedAll tally (toldThrough lister.listener (telegramsIn (afterKept lister piece)))
+unfoldable pub counted_piece : Tally → Lister → List ℕ → Tally
+counted_piece tally lister piece = counted_all tally (told_through lister.listener (telegrams_in (after_kept lister piece)))
 
 -- W-06: with pieces, one after another
-unfoldable pub countedPieces : Tally → Lister → List (List ℕ) → Tally
-countedPieces tally lister [] = tally
-countedPieces tally lister (piece ∷ more) = countedPieces (countedPiece tally lister piece) (take_of lister piece) more
+unfoldable pub counted_pieces : Tally → Lister → List (List ℕ) → Tally
+counted_pieces tally lister [] = tally
+counted_pieces tally lister (piece ∷ more) = counted_pieces (counted_piece tally lister piece) (take_of lister piece) more

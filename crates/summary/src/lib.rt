@@ -4,13 +4,13 @@ ghost use Rattle.std.specs.Prelude.{◌≡◌, []};
 ghost use Rattle.kit.specs.Loops.{any};
 ghost use Rattle.kit.specs.Put.{Poured};
 ghost use Rattle.telegram.specs.Tables.{packets};
-ghost use Rattle.listener.specs.Answers.{refusedAs, toldOf};
-ghost use Rattle.listener.specs.Lent.{listenerIn};
-ghost use Rattle.lister.specs.Hearings.{heardBy};
+ghost use Rattle.listener.specs.Answers.{refused_as, told_of};
+ghost use Rattle.listener.specs.Lent.{listener_in};
+ghost use Rattle.lister.specs.Hearings.{heard_by};
 ghost use Rattle.lister.specs.Pieces.{MadeByPieces};
 ghost use Rattle.summary.specs.Counts.{tally_of};
-ghost use Rattle.summary.specs.Tallies.{oneMore, knownOr, counted, countedPiece};
-ghost use Rattle.summary.specs.Summaries.{with_number, countLine, countLines, refusalLine, refusalPart, refusalParts, packetHeld, packetPart, packetParts, unfinishedLine, unfinishedPart, tailPart, summaryOf};
+ghost use Rattle.summary.specs.Tallies.{one_more, known_or, counted, counted_piece};
+ghost use Rattle.summary.specs.Summaries.{with_number, count_line, count_lines, refusal_line, refusal_part, refusal_parts, packet_held, packet_part, packet_parts, unfinished_line, unfinished_part, tail_part, summary_of};
 
 use hand::Hand;
 use listener::Answer;
@@ -50,7 +50,7 @@ impl Tally {
 
     // With one answer more.
     pub fn count(self, answer: Answer) -> Self
-        ensures { result ≡ counted self (toldOf answer) }
+        ensures { result ≡ counted self (told_of answer) }
     {
         let telegrams = one_more(self.telegrams);
         let refused = self.refused;
@@ -84,7 +84,7 @@ impl Tally {
     // With the telegrams that become whole with this piece. `lister` is the state before the piece.
     pub fn take(self, lister: Lister, piece: &[u8]) -> Self
         requires { MadeByPieces lister }
-        ensures { result ≡ countedPiece self lister piece.now }
+        ensures { result ≡ counted_piece self lister piece.now }
     {
         let listener = lister.listener;
         let mut telegram = lister.tail;
@@ -105,7 +105,7 @@ impl Tally {
 
 // One more.
 fn one_more(count: u64) -> u64
-    ensures { result ≡ oneMore count }
+    ensures { result ≡ one_more count }
 {
     if count == u64::MAX {
         return u64::MAX;
@@ -115,7 +115,7 @@ fn one_more(count: u64) -> u64
 
 // The place that is known, or where none is this one.
 fn first_or(first: u64, place: u64) -> u64
-    ensures { result ≡ knownOr first place }
+    ensures { result ≡ known_or first place }
 {
     if first == 0 {
         return place;
@@ -125,7 +125,7 @@ fn first_or(first: u64, place: u64) -> u64
 
 // With one telegram more, which was refused under this number. The listener gives none above 15.
 fn refuse(tally: Tally, number: u8) -> Tally
-    ensures { result ≡ counted tally (refusedAs number) }
+    ensures { result ≡ counted tally (refused_as number) }
 {
     let place = one_more(tally.telegrams);
     let mut refused = tally.refused;
@@ -153,8 +153,8 @@ fn refuse(tally: Tally, number: u8) -> Tally
 
 // Hears one telegram in lent memory, and counts the answer.
 fn hear_next(tally: Tally, memory: &mut [u8; 310], telegram: &[u8]) -> Tally
-    ensures { (result ≡ counted tally (heardBy (listenerIn memory.old) telegram.now).told)
-        × (listenerIn memory.new ≡ (heardBy (listenerIn memory.old) telegram.now).listener) }
+    ensures { (result ≡ counted tally (heard_by (listener_in memory.old) telegram.now).told)
+        × (listener_in memory.new ≡ (heard_by (listener_in memory.old) telegram.now).listener) }
 {
     let answer = lister::hear_in(memory, telegram);
     tally.count(answer)
@@ -170,7 +170,7 @@ fn put_numbered(words: &[u8], number: u64, out: &mut [u8], at: usize) -> usize
 
 // A word, a count and a line feed.
 fn put_count(word: &[u8], count: u64, out: &mut [u8], at: usize) -> usize
-    ensures { Poured out.old at (countLine word.now count) out.new result }
+    ensures { Poured out.old at (count_line word.now count) out.new result }
 {
     let next = put_numbered(word, count, out, at);
     text::put_words(out, next, b"\n")
@@ -178,7 +178,7 @@ fn put_count(word: &[u8], count: u64, out: &mut [u8], at: usize) -> usize
 
 // How many telegrams, tables and repeats.
 fn put_counts(telegrams: u64, tables: u64, repeats: u64, out: &mut [u8], at: usize) -> usize
-    ensures { Poured out.old at (countLines telegrams tables repeats) out.new result }
+    ensures { Poured out.old at (count_lines telegrams tables repeats) out.new result }
 {
     let second = put_count(b"telegrams ", telegrams, out, at);
     let third = put_count(b"tables ", tables, out, second);
@@ -187,7 +187,7 @@ fn put_counts(telegrams: u64, tables: u64, repeats: u64, out: &mut [u8], at: usi
 
 // `refused R: N, first at telegram P`.
 fn put_refused(number: u64, count: u64, place: u64, out: &mut [u8], at: usize) -> usize
-    ensures { Poured out.old at (refusalLine number count place) out.new result }
+    ensures { Poured out.old at (refusal_line number count place) out.new result }
 {
     let second = put_numbered(b"refused ", number, out, at);
     let third = put_numbered(b": ", count, out, second);
@@ -197,7 +197,7 @@ fn put_refused(number: u64, count: u64, place: u64, out: &mut [u8], at: usize) -
 
 // That line where some are refused under the number.
 fn put_refusal(number: u64, count: u64, place: u64, out: &mut [u8], at: usize) -> usize
-    ensures { Poured out.old at (refusalPart number count place) out.new result }
+    ensures { Poured out.old at (refusal_part number count place) out.new result }
 {
     if count == 0 {
         return text::put_words(out, at, b"");
@@ -207,7 +207,7 @@ fn put_refusal(number: u64, count: u64, place: u64, out: &mut [u8], at: usize) -
 
 // For each number, ascending.
 fn put_refusals(refused: [u64; 16], first: [u64; 16], out: &mut [u8], at: usize) -> usize
-    ensures { Poured out.old at (refusalParts refused first) out.new result }
+    ensures { Poured out.old at (refusal_parts refused first) out.new result }
 {
     let mut next = text::put_words(out, at, b"");
     let mut number: usize = 0;
@@ -220,7 +220,7 @@ fn put_refusals(refused: [u64; 16], first: [u64; 16], out: &mut [u8], at: usize)
 
 // Whether a packet is held.
 fn is_begun(held: [bool; 5]) -> bool
-    ensures { result ≡ any (packetHeld held) 0 packets }
+    ensures { result ≡ any (packet_held held) 0 packets }
 {
     let mut k: usize = 0;
     while k < PACKETS {
@@ -234,7 +234,7 @@ fn is_begun(held: [bool; 5]) -> bool
 
 // A packet that is held, after a blank.
 fn put_packet(held: bool, packet: u64, out: &mut [u8], at: usize) -> usize
-    ensures { Poured out.old at (packetPart held packet) out.new result }
+    ensures { Poured out.old at (packet_part held packet) out.new result }
 {
     if held {
         return put_numbered(b" ", packet, out, at);
@@ -244,7 +244,7 @@ fn put_packet(held: bool, packet: u64, out: &mut [u8], at: usize) -> usize
 
 // The packets that are held, ascending.
 fn put_packets(held: [bool; 5], out: &mut [u8], at: usize) -> usize
-    ensures { Poured out.old at (packetParts held) out.new result }
+    ensures { Poured out.old at (packet_parts held) out.new result }
 {
     let mut next = text::put_words(out, at, b"");
     let mut k: usize = 0;
@@ -257,7 +257,7 @@ fn put_packets(held: [bool; 5], out: &mut [u8], at: usize) -> usize
 
 // `unfinished: step S, packets A B C`.
 fn put_set(step: u16, held: [bool; 5], out: &mut [u8], at: usize) -> usize
-    ensures { Poured out.old at (unfinishedLine step held) out.new result }
+    ensures { Poured out.old at (unfinished_line step held) out.new result }
 {
     let second = put_numbered(b"unfinished: step ", step as u64, out, at);
     let third = text::put_words(out, second, b", packets");
@@ -267,7 +267,7 @@ fn put_set(step: u16, held: [bool; 5], out: &mut [u8], at: usize) -> usize
 
 // That line where a set is in hand.
 fn put_unfinished(hand: Hand, out: &mut [u8], at: usize) -> usize
-    ensures { Poured out.old at (unfinishedPart hand) out.new result }
+    ensures { Poured out.old at (unfinished_part hand) out.new result }
 {
     let held = hand.held;
     if is_begun(held) {
@@ -278,7 +278,7 @@ fn put_unfinished(hand: Hand, out: &mut [u8], at: usize) -> usize
 
 // `tail of N bytes` where some are left.
 fn put_tail(kept: usize, out: &mut [u8], at: usize) -> usize
-    ensures { Poured out.old at (tailPart kept) out.new result }
+    ensures { Poured out.old at (tail_part kept) out.new result }
 {
     if kept == 0 {
         return text::put_words(out, at, b"");
@@ -290,7 +290,7 @@ fn put_tail(kept: usize, out: &mut [u8], at: usize) -> usize
 // The text of a summary, of the counts and the state at the end of the input. What has no room before the buffer's end is dropped, and the
 // answer is the place past what was put.
 pub fn put(tally: Tally, lister: Lister, out: &mut [u8], at: usize) -> usize
-    ensures { Poured out.old at (summaryOf tally lister) out.new result }
+    ensures { Poured out.old at (summary_of tally lister) out.new result }
 {
     let listener = lister.listener;
     let hand = listener.hand;

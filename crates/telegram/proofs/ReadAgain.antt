@@ -11,13 +11,13 @@ use Rattle.kit.specs.Ladder.{NoneHolds}
 use Rattle.kit.proofs.Cases.{on}
 use Rattle.kit.proofs.Ladder.{ladder-silent, silent-join, silent-all}
 use Rattle.kit.proofs.Loops.{scan-none}
-use Rattle.condition.specs.Slots.{slotRows, slotIn, coding, codedOf, HeldBody}
+use Rattle.condition.specs.Slots.{slot_rows, slot_in, coding, coded_of, HeldBody}
 use Rattle.condition.specs.declared.slots.Body.{Body}
 use Rattle.condition.specs.declared.slots.Body.TheVariants.{Empty, Area, Traction, Current}
 use Rattle.wire.specs.declared.verdicts.Verdict.TheVariants.{Accepted}
-use Rattle.condition.proofs.Coding.{coded-silent, slot-in-back}
-use Rattle.telegram.specs.Telegrams.{placeStart, codedAt, takenBefore, takenRow, placeRows, readRows, slot_at, telegramOf, read_of, bytes_of}
-use Rattle.telegram.specs.Sendable.{slotOn, Sendable}
+use Rattle.condition.proofs.Coding.{coded-silent, slot_in-back}
+use Rattle.telegram.specs.Telegrams.{place_start, coded_at, taken_before, taken_row, place_rows, read_rows, slot_at, telegram_of, read_of, bytes_of}
+use Rattle.telegram.specs.Sendable.{slot_on, Sendable}
 use Rattle.telegram.specs.declared.Telegram.{Telegram}
 use Rattle.telegram.proofs.Four.{four-list}
 use Rattle.telegram.proofs.Rows.{read-accepted}
@@ -31,55 +31,55 @@ coded-number number (Traction a c v) h = refl
 coded-number number (Current a l) h = refl
 
 module _ (t : Telegram) (s : Sendable t) where
-  number-on : (k : ℕ) → k < 4 → (codedAt (bytes_of t) k).number ≡ (slotOn t k).number
-  unfolding codedOf
-  number-on k p = ap (λ c. c.number) (coded-on t k p) ∙ coded-number (slotOn t k).number (slotOn t k).body (s.held k)
+  number-on : (k : ℕ) → k < 4 → (coded_at (bytes_of t) k).number ≡ (slot_on t k).number
+  unfolding coded_of
+  number-on k p = ap (λ c. c.number) (coded-on t k p) ∙ coded-number (slot_on t k).number (slot_on t k).body (s.held k)
 
-  untaken : (k : ℕ) → k < 4 → ltb 0 (codedAt (bytes_of t) k).number && takenBefore (bytes_of t) k (codedAt (bytes_of t) k).number ≡ false
-  unfolding takenBefore codedAt
+  untaken : (k : ℕ) → k < 4 → ltb 0 (coded_at (bytes_of t) k).number && taken_before (bytes_of t) k (coded_at (bytes_of t) k).number ≡ false
+  unfolding taken_before coded_at
   untaken k p =
-      let n : ℕ = (codedAt (bytes_of t) k).number in
+      let n : ℕ = (coded_at (bytes_of t) k).number in
       on (ltb 0 n)
       (λ e.
       rw e
-      (scan-none (λ j. eqb (get_or (bytes_of t) (placeStart j) 0) n) (λ j. true) false 0 k
+      (scan-none (λ j. eqb (get_or (bytes_of t) (place_start j) 0) n) (λ j. true) false 0 k
       (λ j low below.
-      ne_eqb (get_or (bytes_of t) (placeStart j) 0) n
+      ne_eqb (get_or (bytes_of t) (place_start j) 0) n
       (λ same.
-      let a : (codedAt (bytes_of t) j).number ≡ (slotOn t j).number = number-on j (omega arith) in
-      let b : n ≡ (slotOn t k).number = number-on k p in
+      let a : (coded_at (bytes_of t) j).number ≡ (slot_on t j).number = number-on j (omega arith) in
+      let b : n ≡ (slot_on t k).number = number-on k p in
       s.distinct j k (omega arith) p (omega (arith, ltb-true 0 n e)) (sym a ∙ (same ∙ b))))))
       (λ e. rw e refl)
 
-  places-silent : (k : ℕ) → k < 4 → NoneHolds (placeRows (bytes_of t) k)
+  places-silent : (k : ℕ) → k < 4 → NoneHolds (place_rows (bytes_of t) k)
   places-silent k p =
-      silent-join (slotRows (codedAt (bytes_of t) k)) (takenRow (bytes_of t) k (codedAt (bytes_of t) k).number)
-      (subst (λ c. NoneHolds (slotRows c)) (sym (coded-on t k p)) (coded-silent (slotOn t k) (s.held k)))
+      silent-join (slot_rows (coded_at (bytes_of t) k)) (taken_row (bytes_of t) k (coded_at (bytes_of t) k).number)
+      (subst (λ c. NoneHolds (slot_rows c)) (sym (coded-on t k p)) (coded-silent (slot_on t k) (s.held k)))
       (untaken k p, tt)
 
   -- no row refuses it
-  pub sent-silent : NoneHolds (readRows (bytes_of t))
-  unfolding readRows
+  pub sent-silent : NoneHolds (read_rows (bytes_of t))
+  unfolding read_rows
   sent-silent = (
     rw (eq-eqb (length (bytes_of t)) 26 (length-bytes t)) refl,
     (
       rw (packet-on t s.packet-to) (le-ltb t.packet 3 s.packet-from),
-      silent-all (placeRows (bytes_of t)) 0 4 (λ k low below. places-silent k (omega arith)),
+      silent-all (place_rows (bytes_of t)) 0 4 (λ k low below. places-silent k (omega arith)),
     ),
   )
 
-  slot-on : (k : ℕ) → k < 4 → slot_at (bytes_of t) k ≡ slotOn t k
-  slot-on k p = ap slotIn (coded-on t k p) ∙ slot-in-back (slotOn t k) (s.held k)
+  slot_on_lem : (k : ℕ) → k < 4 → slot_at (bytes_of t) k ≡ slot_on t k
+  slot_on_lem k p = ap slot_in (coded-on t k p) ∙ slot_in-back (slot_on t k) (s.held k)
 
-  meant : telegramOf (bytes_of t) ≡ t
-  unfolding telegramOf
+  meant : telegram_of (bytes_of t) ≡ t
+  unfolding telegram_of
   meant =
       let slots : slot_at (bytes_of t) 0 ∷ slot_at (bytes_of t) 1 ∷ slot_at (bytes_of t) 2 ∷ slot_at (bytes_of t) 3 ∷ [] ≡ t.slots =
-      rw (slot-on 0 (omega arith), slot-on 1 (omega arith), slot-on 2 (omega arith), slot-on 3 (omega arith)) (four-list t.slots s.four) in
+      rw (slot_on_lem 0 (omega arith), slot_on_lem 1 (omega arith), slot_on_lem 2 (omega arith), slot_on_lem 3 (omega arith)) (four-list t.slots s.four) in
       λ i. record { packet = packet-on t s.packet-to i; step = step-on t s.step-below i; slots = slots i }
 
   -- M-2d
   pub read_again : read_of (bytes_of t) ≡ record { verdict = Accepted; telegram = t }
   read_again =
-      read-accepted (bytes_of t) 0 (sym (ladder-silent 0 (readRows (bytes_of t)) sent-silent)) refl
+      read-accepted (bytes_of t) 0 (sym (ladder-silent 0 (read_rows (bytes_of t)) sent-silent)) refl
       ∙ ap (λ m. record { verdict = Accepted; telegram = m }) meant

@@ -2,7 +2,7 @@
 // packet carries. specs/ has the layout and the refusals, proofs/ the theorems on them; the crates telegram_reader and
 // telegram_writer have the code.
 ghost use Rattle.std.specs.Prelude.{◌≡◌};
-ghost use Rattle.telegram.specs.Tables.{tableSlot, firstSlot, fourOf};
+ghost use Rattle.telegram.specs.Tables.{table_slot, first_slot, four_of};
 
 use condition::{SLOTS, Slot};
 use wire::Verdict;
@@ -30,7 +30,7 @@ pub struct Reading {
 
 // Slot i of a table, and past its end an empty one.
 pub fn slot_in(table: [Slot; 20], i: usize) -> Slot
-    ensures { result ≡ tableSlot table i }
+    ensures { result ≡ table_slot table i }
 {
     if i < SLOTS {
         return table[i];
@@ -41,7 +41,7 @@ pub fn slot_in(table: [Slot; 20], i: usize) -> Slot
 // The first of the slots that a packet carries. Packets 0 to 2 are taken as packet 3, and those above 7 lie past the table: the
 // writer refuses both, and the reader gives neither.
 pub fn first_slot(packet: u8) -> usize
-    ensures { result ≡ firstSlot packet }
+    ensures { result ≡ first_slot packet }
 {
     if packet < FIRST_PACKET {
         return 0;
@@ -51,7 +51,7 @@ pub fn first_slot(packet: u8) -> usize
 
 // Packet p carries slots 4(p-3) to 4(p-3)+3; past the table's end they are empty.
 pub fn four_of(table: [Slot; 20], packet: u8) -> [Slot; 4]
-    ensures { result ≡ fourOf table packet }
+    ensures { result ≡ four_of table packet }
 {
     let at = first_slot(packet);
     [

@@ -1,8 +1,8 @@
 // Reading a telegram of any bytes and any length: its refusal (10, 11, then the first bad slot with 12, 13, 6, 14), or what it means.
 ghost use Rattle.std.specs.Prelude.{◌≡◌, ◌<◌, ◌≤◌, length};
 ghost use Rattle.kit.specs.Ladder.{ladder};
-ghost use Rattle.telegram_reader.specs.Places.{placeSlot};
-ghost use Rattle.telegram.specs.Telegrams.{codedAt, slot_at, takenBefore, placeRows, readRefusal, telegramOf, read_of};
+ghost use Rattle.telegram_reader.specs.Places.{place_slot};
+ghost use Rattle.telegram.specs.Telegrams.{coded_at, slot_at, taken_before, place_rows, read_refusal, telegram_of, read_of};
 
 use condition::{Coded, Slot};
 use telegram::{FIRST_PACKET, LENGTH, Reading, Telegram};
@@ -11,7 +11,7 @@ use wire::{STEPS, Verdict};
 // The six bytes of place k, 0 to 3.
 fn coded_at(bytes: &[u8], k: usize) -> Coded
     requires { (length bytes.now ≡ 26) × (k < 4) }
-    ensures { result ≡ codedAt bytes.now k }
+    ensures { result ≡ coded_at bytes.now k }
 {
     let at = 2 + 6 * k;
     Coded {
@@ -25,7 +25,7 @@ fn coded_at(bytes: &[u8], k: usize) -> Coded
 // Whether a number stands in a place below k.
 fn taken_before(bytes: &[u8], k: usize, number: u8) -> bool
     requires { (length bytes.now ≡ 26) × (k ≤ 4) }
-    ensures { result ≡ takenBefore bytes.now k number }
+    ensures { result ≡ taken_before bytes.now k number }
 {
     let mut j = 0;
     while j < k {
@@ -40,7 +40,7 @@ fn taken_before(bytes: &[u8], k: usize, number: u8) -> bool
 // The refusal of place k, or 0: its own rows, and below them 14 where its number stands in an earlier place.
 fn place_refusal(bytes: &[u8], k: usize) -> u8
     requires { (length bytes.now ≡ 26) × (k < 4) }
-    ensures { result ≡ ladder 0 (placeRows bytes.now k) }
+    ensures { result ≡ ladder 0 (place_rows bytes.now k) }
 {
     let coded = coded_at(bytes, k);
     let own = condition::refusal_of(coded);
@@ -56,7 +56,7 @@ fn place_refusal(bytes: &[u8], k: usize) -> u8
 
 // The refusal of a telegram, or 0: its length, its packet, and then the first bad place.
 pub fn refusal_of(bytes: &[u8]) -> u8
-    ensures { result ≡ readRefusal bytes.now }
+    ensures { result ≡ read_refusal bytes.now }
 {
     if bytes.len() != LENGTH {
         return 10;
@@ -89,7 +89,7 @@ fn slot_at(bytes: &[u8], k: usize) -> Slot
 
 // The slot of place k of a telegram; of bytes that are not 26 or a place that is not 0 to 3, an empty one.
 pub fn place_slot(bytes: &[u8], k: usize) -> Slot
-    ensures { result ≡ placeSlot bytes.now k }
+    ensures { result ≡ place_slot bytes.now k }
 {
     if bytes.len() != LENGTH {
         return Slot::empty();
@@ -103,7 +103,7 @@ pub fn place_slot(bytes: &[u8], k: usize) -> Slot
 // What 26 bytes mean: in the first two the packet number has the top three bits and the step number the low thirteen.
 fn telegram_of(bytes: &[u8]) -> Telegram
     requires { length bytes.now ≡ 26 }
-    ensures { result ≡ telegramOf bytes.now }
+    ensures { result ≡ telegram_of bytes.now }
 {
     let head = wire::word_at(bytes, 0);
     let slots = [

@@ -2,8 +2,8 @@
 ghost use Rattle.std.specs.Prelude.{◌≡◌, not, ◌&&◌, leb, [], ◌∷◌, ◌+◌, ◌<◌, ◌≤◌, length};
 ghost use Rattle.kit.specs.Bytes.{word_bytes};
 ghost use Rattle.kit.specs.Put.{Put};
-ghost use Rattle.condition.specs.Slots.{codedOf, sixOf};
-ghost use Rattle.telegram.specs.Telegrams.{bytes_of, writeRefusal, writeVerdict, written};
+ghost use Rattle.condition.specs.Slots.{coded_of, six_of};
+ghost use Rattle.telegram.specs.Telegrams.{bytes_of, write_refusal, write_verdict, written};
 
 use condition::Slot;
 use telegram::{FIRST_PACKET, LAST_PACKET, LENGTH, Telegram};
@@ -27,7 +27,7 @@ fn put_word(buffer: &mut [u8], at: usize, word: u16) -> usize
 
 fn put_slot(buffer: &mut [u8], at: usize, slot: Slot) -> usize
     requires { at + 6 ≤ length buffer.old }
-    ensures { Put buffer.old at (sixOf (codedOf slot)) buffer.new result }
+    ensures { Put buffer.old at (six_of (coded_of slot)) buffer.new result }
 {
     let coded = condition::coded_of(slot);
     let second = put_byte(buffer, at, coded.number);
@@ -67,7 +67,7 @@ fn is_other(packet: u8) -> bool
 
 // The refusal of a packet number and a buffer's length, or 0.
 fn refusal_of(packet: u8, room: usize) -> u8
-    ensures { result ≡ writeRefusal packet room }
+    ensures { result ≡ write_refusal packet room }
 {
     let other = is_other(packet);
     if other {
@@ -81,7 +81,7 @@ fn refusal_of(packet: u8, room: usize) -> u8
 
 // Writes a telegram into a buffer of any length, or refuses and leaves the buffer as it is.
 pub fn write(telegram: Telegram, buffer: &mut [u8]) -> Verdict
-    ensures { (result ≡ writeVerdict telegram buffer.old) × (buffer.new ≡ written telegram buffer.old) }
+    ensures { (result ≡ write_verdict telegram buffer.old) × (buffer.new ≡ written telegram buffer.old) }
 {
     let refusal = refusal_of(telegram.packet, buffer.len());
     if refusal != 0 {

@@ -10,7 +10,7 @@ use native.Mathlib.Omega.{arith}
 use borrow.Author.Tests.{lt-ltb, le-ltb, ltb-true, ltb-false}
 use Rattle.kit.proofs.Cases.{on}
 use Rattle.text.specs.Decimals.{digit, digits, decimal}
-use Rattle.text.specs.Hexadecimals.{hexDigit, hexadecimal}
+use Rattle.text.specs.Hexadecimals.{hex_digit, hexadecimal}
 
 -- as many digits as the number is large are always enough
 enough : (a b n : ℕ) → n ≤ a → n ≤ b → digits a n ≡ digits b n
@@ -36,7 +36,7 @@ decimal-more n p = enough n (suc n) n (omega arith) (omega arith) ∙ rw (le-ltb
 pub hexadecimal-long : (k n : ℕ) → length (hexadecimal k n) ≡ k
 unfolding hexadecimal
 hexadecimal-long zero n = refl
-hexadecimal-long (suc k) n = omega (arith, length-append (hexadecimal k (n / 16)) (hexDigit (n % 16) ∷ []), hexadecimal-long k (n / 16))
+hexadecimal-long (suc k) n = omega (arith, length-append (hexadecimal k (n / 16)) (hex_digit (n % 16) ∷ []), hexadecimal-long k (n / 16))
 
 -- a number below 10 ^ k has at most k digits
 pub decimal-short : (k n : ℕ) → n < 10 ^ k → 1 ≤ k → length (decimal n) ≤ k
@@ -51,5 +51,5 @@ decimal-short (suc (suc k)) n p q =
     (omega (arith, length-append (decimal (n / 10)) (digit n), decimal-short (suc k) (n / 10) tenth (omega arith))))
 
 -- a byte has at most three
-pub decimal-byte : (n : ℕ) → n < 256 → length (decimal n) ≤ 3
-decimal-byte n p = decimal-short 3 n (omega arith) (omega arith)
+pub decimal_byte : (n : ℕ) → n < 256 → length (decimal n) ≤ 3
+decimal_byte n p = decimal-short 3 n (omega arith) (omega arith)

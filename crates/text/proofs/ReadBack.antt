@@ -8,44 +8,44 @@ use lib.ListN.{length, get_or}
 use native.Mathlib.Omega.{arith}
 use borrow.Author.Tests.{ltb-true, ltb-false}
 use Rattle.kit.proofs.Cases.{on, given}
-use Rattle.text.specs.Decimals.{digit, decimal, valueFrom, IsDecimal}
+use Rattle.text.specs.Decimals.{digit, decimal, value_from, IsDecimal}
 use Rattle.text.proofs.Numerals.{decimal-one, decimal-more}
 
-value-append : (so_far : ℕ) (a b : List ℕ) → valueFrom so_far (a ++ b) ≡ valueFrom (valueFrom so_far a) b
-value-append so_far [] b = refl
-value-append so_far (c ∷ a) b = value-append (so_far * 10 + (c - 48)) a b
+value_append : (so_far : ℕ) (a b : List ℕ) → value_from so_far (a ++ b) ≡ value_from (value_from so_far a) b
+value_append so_far [] b = refl
+value_append so_far (c ∷ a) b = value_append (so_far * 10 + (c - 48)) a b
 
-value-below : (k n : ℕ) → n ≤ k → valueFrom 0 (decimal n) ≡ n
-value-below zero n p = let z : n ≡ 0 = omega arith in ap (valueFrom 0) (decimal-one n (omega arith)) ∙ omega arith
+value-below : (k n : ℕ) → n ≤ k → value_from 0 (decimal n) ≡ n
+value-below zero n p = let z : n ≡ 0 = omega arith in ap (value_from 0) (decimal-one n (omega arith)) ∙ omega arith
 value-below (suc k) n p =
     on (ltb n 10)
-    (λ e. ap (valueFrom 0) (decimal-one n (ltb-true n 10 e)) ∙ omega arith)
+    (λ e. ap (value_from 0) (decimal-one n (ltb-true n 10 e)) ∙ omega arith)
     (λ e.
     let many = ltb-false n 10 e in
-    ap (valueFrom 0) (decimal-more n many)
-    ∙ (value-append 0 (decimal (n / 10)) (digit n)
-    ∙ (ap (λ v. valueFrom v (digit n)) (value-below k (n / 10) (omega arith)) ∙ omega arith)))
+    ap (value_from 0) (decimal-more n many)
+    ∙ (value_append 0 (decimal (n / 10)) (digit n)
+    ∙ (ap (λ v. value_from v (digit n)) (value-below k (n / 10) (omega arith)) ∙ omega arith)))
 
-pub decimal-value : (n : ℕ) → valueFrom 0 (decimal n) ≡ n
+pub decimal-value : (n : ℕ) → value_from 0 (decimal n) ≡ n
 decimal-value n = value-below n n (omega arith)
 
 -- the first digit
 abbrev Leads : ℕ → List ℕ → Type 0
 Leads c l = (more : List ℕ) × (l ≡ c ∷ more)
 
-leads-below : (k n : ℕ) → n ≤ k → 1 ≤ n → (c : ℕ) × (49 ≤ c) × (c ≤ 57) × Leads c (decimal n)
-leads-below zero n p q = absurd (omega arith)
-leads-below (suc k) n p q =
+leads_below : (k n : ℕ) → n ≤ k → 1 ≤ n → (c : ℕ) × (49 ≤ c) × (c ≤ 57) × Leads c (decimal n)
+leads_below zero n p q = absurd (omega arith)
+leads_below (suc k) n p q =
     on (ltb n 10)
     (λ e. let small = ltb-true n 10 e in (48 + n, omega arith, omega arith, ([], decimal-one n small)))
     (λ e.
     let many = ltb-false n 10 e in
-    given (leads-below k (n / 10) (omega arith) (omega arith))
+    given (leads_below k (n / 10) (omega arith) (omega arith))
     (λ (c, low, high, (more, same)). (c, low, high, (more ++ digit n, decimal-more n many ∙ ap (λ l. l ++ digit n) same))))
 
 -- of a number above 0 it is 1 to 9
-pub decimal-leads : (n : ℕ) → 1 ≤ n → (c : ℕ) × (49 ≤ c) × (c ≤ 57) × Leads c (decimal n)
-decimal-leads n = leads-below n n (omega arith)
+pub decimal_leads : (n : ℕ) → 1 ≤ n → (c : ℕ) × (49 ≤ c) × (c ≤ 57) × Leads c (decimal n)
+decimal_leads n = leads_below n n (omega arith)
 
 -- ---- all of it
 
@@ -79,7 +79,7 @@ decimal-is n =
     let one : length (decimal n) ≡ 1 = ap length (decimal-one n (omega (arith, ltb-true n 1 e))) in
     record { some = omega arith; digits-only = ascii-below n n (omega arith); value = decimal-value n; leading = λ p. absurd (omega arith) })
     (λ e.
-    given (decimal-leads n (ltb-false n 1 e))
+    given (decimal_leads n (ltb-false n 1 e))
     (λ (c, low, high, (more, same)).
     let long : length (decimal n) ≡ length more + 1 = ap length same ∙ omega arith in
     record { some = omega arith; digits-only = ascii-below n n (omega arith); value = decimal-value n; leading = λ p. subst (λ text. code "1" ≤ get_or text 0 0) (sym same) low }))

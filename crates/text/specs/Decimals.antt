@@ -19,13 +19,13 @@ decimal n = digits n n
 -- ---- what that means, without the formula; proofs/ReadBack.antt proves it of `decimal`
 
 -- A-35: the number that digits say, read from the left, after those that said `so_far`
-abbrev pub valueFrom : ℕ → List ℕ → ℕ
-valueFrom so_far [] = so_far
-valueFrom so_far (byte ∷ more) = valueFrom (so_far * 10 + (byte - code "0")) more
+abbrev pub value_from : ℕ → List ℕ → ℕ
+value_from so_far [] = so_far
+value_from so_far (byte ∷ more) = value_from (so_far * 10 + (byte - code "0")) more
 
 -- A-35: a text is a number in decimal: digits in ASCII that say the number, and the first is a zero only where it is the only one
 pub record IsDecimal (number : ℕ) (text : List ℕ) : Type 0 where
   pub some : 1 ≤ length text
   pub digits-only : (i : ℕ) → i < length text → (code "0" ≤ get_or text i 0) × (get_or text i 0 ≤ code "9")
-  pub value : valueFrom 0 text ≡ number
+  pub value : value_from 0 text ≡ number
   pub leading : 2 ≤ length text → code "1" ≤ get_or text 0 0

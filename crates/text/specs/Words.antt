@@ -8,5 +8,5 @@ abbrev pub blank : ℕ
 blank = code " "
 
 -- G-07
-abbrev pub refusedWord : List ℕ
-refusedWord = ascii "refused "
+abbrev pub refused_word : List ℕ
+refused_word = ascii "refused "

@@ -21,5 +21,5 @@ below (suc bound) m n p q e =
     let halves : m / 2 ≡ n / 2 = below bound (m / 2) (n / 2) (omega arith) (omega arith) (λ i. e (suc i)) in
     omega (arith, halves, lowest-same m n (e 0))
 
-pub bits-same : (m n : ℕ) → ((i : ℕ) → bit i m ≡ bit i n) → m ≡ n
-bits-same m n e = below (m + n) m n (omega arith) (omega arith) e
+pub bits_same : (m n : ℕ) → ((i : ℕ) → bit i m ≡ bit i n) → m ≡ n
+bits_same m n e = below (m + n) m n (omega arith) (omega arith) e

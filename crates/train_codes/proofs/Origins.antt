@@ -8,8 +8,8 @@ use native.Mathlib.Omega.{arith}
 use borrow.Author.Tests.{ne_eqb, ltb-true, ltb-false}
 use Rattle.kit.specs.Ladder.{ladder}
 use Rattle.kit.proofs.Cases.{on}
-use Rattle.train_codes.proofs.Bits.{bits-same}
-use Rattle.train_codes.specs.Codes.{cabOf, brakeOf, isolationOf}
+use Rattle.train_codes.proofs.Bits.{bits_same}
+use Rattle.train_codes.specs.Codes.{cab_of, brake_of, isolation_of}
 use Rattle.train_codes.specs.Origins.{CabCode, BrakeCode, IsolationCode, TractionCode}
 use Rattle.train_codes.specs.declared.Brake.{Brake}
 use Rattle.train_codes.specs.declared.Brake.TheVariants as Brake'
@@ -25,16 +25,16 @@ exactly : {State : Type 0} (Code : State → Type 0) (own : State) → Code own 
 exactly Code own holds one state = (λ e. subst Code e holds, one state)
 
 -- S-09
-pub cab-exactly : (a b : Bool) (state : Cab) → (cabOf a b ≡ state) ↔ CabCode state a b
-cab-exactly a b = exactly (λ state. CabCode state a b) (cabOf a b) (own a b) (one a b)
+pub cab-exactly : (a b : Bool) (state : Cab) → (cab_of a b ≡ state) ↔ CabCode state a b
+cab-exactly a b = exactly (λ state. CabCode state a b) (cab_of a b) (own a b) (one a b)
   where
-    own : (a b : Bool) → CabCode (cabOf a b) a b
+    own : (a b : Bool) → CabCode (cab_of a b) a b
     own false false = (refl, refl)
     own true false = (refl, refl)
     own false true = (refl, refl)
     own true true = (refl, refl)
 
-    one : (a b : Bool) (state : Cab) → CabCode state a b → cabOf a b ≡ state
+    one : (a b : Bool) (state : Cab) → CabCode state a b → cab_of a b ≡ state
     one a b Cab'.None (p, q) = rw (p, q) refl
     one a b Cab'.A (p, q) = rw (p, q) refl
     one a b Cab'.B (p, q) = rw (p, q) refl
@@ -42,48 +42,48 @@ cab-exactly a b = exactly (λ state. CabCode state a b) (cabOf a b) (own a b) (o
     one a b Cab'.Silent code = absurd code
 
 -- S-10
-brake-invalid : (number : ℕ) → 4 ≤ number → brakeOf number ≡ Brake'.Invalid
-unfolding brakeOf ladder
+brake-invalid : (number : ℕ) → 4 ≤ number → brake_of number ≡ Brake'.Invalid
+unfolding brake_of ladder
 brake-invalid number p =
     rw (ne_eqb number 0 (λ e. omega arith), ne_eqb number 1 (λ e. omega arith), ne_eqb number 2 (λ e. omega arith), ne_eqb number 3 (λ e. omega arith)) refl
 
-brake-own : (number : ℕ) → BrakeCode (brakeOf number) number
-unfolding brakeOf ladder
+brake-own : (number : ℕ) → BrakeCode (brake_of number) number
+unfolding brake_of ladder
 brake-own number =
     on (ltb number 4)
     (λ e. below number (ltb-true number 4 e))
     (λ e. let p : 4 ≤ number = omega (arith, ltb-false number 4 e) in subst (λ state. BrakeCode state number) (sym (brake-invalid number p)) p)
   where
-    below : (n : ℕ) → n < 4 → BrakeCode (brakeOf n) n
+    below : (n : ℕ) → n < 4 → BrakeCode (brake_of n) n
     below zero p = refl
     below (suc zero) p = refl
     below (suc (suc zero)) p = refl
     below (suc (suc (suc zero))) p = refl
     below (suc (suc (suc (suc n)))) p = absurd (omega arith)
 
-brake-one : (number : ℕ) (state : Brake) → BrakeCode state number → brakeOf number ≡ state
-unfolding brakeOf ladder
-brake-one number Brake'.PassengerInP e = ap brakeOf e
-brake-one number Brake'.FreightInP e = ap brakeOf e
-brake-one number Brake'.FreightInG e = ap brakeOf e
-brake-one number Brake'.Unknown e = ap brakeOf e
+brake-one : (number : ℕ) (state : Brake) → BrakeCode state number → brake_of number ≡ state
+unfolding brake_of ladder
+brake-one number Brake'.PassengerInP e = ap brake_of e
+brake-one number Brake'.FreightInP e = ap brake_of e
+brake-one number Brake'.FreightInG e = ap brake_of e
+brake-one number Brake'.Unknown e = ap brake_of e
 brake-one number Brake'.Invalid p = brake-invalid number p
 brake-one number Brake'.Silent code = absurd code
 
-pub brake-exactly : (number : ℕ) (state : Brake) → (brakeOf number ≡ state) ↔ BrakeCode state number
-brake-exactly number = exactly (λ state. BrakeCode state number) (brakeOf number) (brake-own number) (brake-one number)
+pub brake-exactly : (number : ℕ) (state : Brake) → (brake_of number ≡ state) ↔ BrakeCode state number
+brake-exactly number = exactly (λ state. BrakeCode state number) (brake_of number) (brake-own number) (brake-one number)
 
 -- S-11
-pub isolation-exactly : (isolated inverse : Bool) (state : Isolation) → (isolationOf isolated inverse ≡ state) ↔ IsolationCode state isolated inverse
-isolation-exactly isolated inverse = exactly (λ state. IsolationCode state isolated inverse) (isolationOf isolated inverse) (own isolated inverse) (one isolated inverse)
+pub isolation-exactly : (isolated inverse : Bool) (state : Isolation) → (isolation_of isolated inverse ≡ state) ↔ IsolationCode state isolated inverse
+isolation-exactly isolated inverse = exactly (λ state. IsolationCode state isolated inverse) (isolation_of isolated inverse) (own isolated inverse) (one isolated inverse)
   where
-    own : (a b : Bool) → IsolationCode (isolationOf a b) a b
+    own : (a b : Bool) → IsolationCode (isolation_of a b) a b
     own false false = refl
     own true false = (refl, refl)
     own false true = (refl, refl)
     own true true = refl
 
-    one : (a b : Bool) (state : Isolation) → IsolationCode state a b → isolationOf a b ≡ state
+    one : (a b : Bool) (state : Isolation) → IsolationCode state a b → isolation_of a b ≡ state
     one a b Isolation'.Isolated (p, q) = rw (p, q) refl
     one a b Isolation'.NotIsolated (p, q) = rw (p, q) refl
     one true b Isolation'.Invalid p = rw (← p) refl
@@ -95,5 +95,5 @@ pub traction-exactly : (list : ℕ) (state : Traction) → (Traction'.Supported 
 traction-exactly list = exactly (λ state. TractionCode state list) (Traction'.Supported list) (λ system. refl) one
   where
     one : (state : Traction) → TractionCode state list → Traction'.Supported list ≡ state
-    one (Traction'.Supported systems) e = ap Traction'.Supported (bits-same list systems (λ i. sym (e i)))
+    one (Traction'.Supported systems) e = ap Traction'.Supported (bits_same list systems (λ i. sym (e i)))
     one Traction'.Silent code = absurd code

@@ -10,15 +10,15 @@ use Rattle.train_codes.specs.declared.Isolation.{Isolation}
 use Rattle.train_codes.specs.declared.Isolation.TheVariants as Isolation'
 
 -- S-09: cab A and cab B: none, A, B; both set is invalid
-abbrev pub cabOf : Bool → Bool → Cab
-cabOf false false = Cab'.None
-cabOf true false = Cab'.A
-cabOf false true = Cab'.B
-cabOf true true = Cab'.Invalid
+abbrev pub cab_of : Bool → Bool → Cab
+cab_of false false = Cab'.None
+cab_of true false = Cab'.A
+cab_of false true = Cab'.B
+cab_of true true = Cab'.Invalid
 
 -- S-10: 0 passenger in P, 1 freight in P, 2 freight in G, 3 unknown, 4 to 7 invalid
-unfoldable pub brakeOf : ℕ → Brake
-brakeOf number =
+unfoldable pub brake_of : ℕ → Brake
+brake_of number =
     ladder Brake'.Invalid
     ((eqb number 0, Brake'.PassengerInP)
     ∷ (eqb number 1, Brake'.FreightInP)
@@ -27,13 +27,13 @@ brakeOf number =
     ∷ [])
 
 -- S-11: 1 with inverse 0 isolated, 0 with inverse 1 not isolated, equal bits invalid
-abbrev pub isolationOf : Bool → Bool → Isolation
-isolationOf true false = Isolation'.Isolated
-isolationOf false true = Isolation'.NotIsolated
-isolationOf true true = Isolation'.Invalid
-isolationOf false false = Isolation'.Invalid
+abbrev pub isolation_of : Bool → Bool → Isolation
+isolation_of true false = Isolation'.Isolated
+isolation_of false true = Isolation'.NotIsolated
+isolation_of true true = Isolation'.Invalid
+isolation_of false false = Isolation'.Invalid
 
 -- S-07, A-27: whether a system stands in a list of supported traction systems: bit 1 of the list is system 1, and so on to system 31; bit 0
 -- is of no system
-abbrev pub isSupported : ℕ → ℕ → Bool
-isSupported systems system = bit system systems
+abbrev pub is_supported : ℕ → ℕ → Bool
+is_supported systems system = bit system systems

@@ -2,7 +2,7 @@
 -- from an invalid code but invalid, and silent comes from no code at all.
 use Rattle.std.specs.Prelude.{ℕ, ◌≤◌, Bool, true, false, ◌≡◌}
 use Rattle.kit.specs.Bytes.{bit}
-use Rattle.train_codes.specs.Codes.{isSupported}
+use Rattle.train_codes.specs.Codes.{is_supported}
 use Rattle.train_codes.specs.declared.Brake.{Brake}
 use Rattle.train_codes.specs.declared.Brake.TheVariants as Brake'
 use Rattle.train_codes.specs.declared.Cab.{Cab}
@@ -38,5 +38,5 @@ IsolationCode Isolation'.Silent isolated inverse = ⊥
 
 -- S-07: by the bits of the list: each system is supported exactly where its own bit is set; A-27: no code is invalid
 abbrev pub TractionCode : Traction → ℕ → Type 0
-TractionCode (Traction'.Supported systems) list = (system : ℕ) → isSupported systems system ≡ bit system list
+TractionCode (Traction'.Supported systems) list = (system : ℕ) → is_supported systems system ≡ bit system list
 TractionCode Traction'.Silent list = ⊥

@@ -3,7 +3,7 @@
 mod refusals;
 
 ghost use Rattle.std.specs.Prelude.{◌≡◌};
-ghost use Rattle.train_codes.specs.Codes.{cabOf, brakeOf, isolationOf};
+ghost use Rattle.train_codes.specs.Codes.{cab_of, brake_of, isolation_of};
 
 pub use refusals::refusal_of;
 
@@ -45,7 +45,7 @@ pub enum Traction {
 }
 
 pub fn cab_of(a: bool, b: bool) -> Cab
-    ensures { result ≡ cabOf a b }
+    ensures { result ≡ cab_of a b }
 {
     if a {
         if b {
@@ -60,7 +60,7 @@ pub fn cab_of(a: bool, b: bool) -> Cab
 }
 
 pub fn brake_of(number: u8) -> Brake
-    ensures { result ≡ brakeOf number }
+    ensures { result ≡ brake_of number }
 {
     match number {
         0 => Brake::PassengerInP,
@@ -73,7 +73,7 @@ pub fn brake_of(number: u8) -> Brake
 }
 
 pub fn isolation_of(isolated: bool, inverse: bool) -> Isolation
-    ensures { result ≡ isolationOf isolated inverse }
+    ensures { result ≡ isolation_of isolated inverse }
 {
     if isolated {
         if inverse {

@@ -1,6 +1,6 @@
 // Which telegrams from the train are refused: 10, 16, 17.
 ghost use Rattle.std.specs.Prelude.{◌≡◌};
-ghost use Rattle.train_codes.specs.Refusals.{restSet, zeroBitSet, trainRefusal};
+ghost use Rattle.train_codes.specs.Refusals.{rest_set, zero_bit_set, train_refusal};
 
 // How many bytes a telegram has; the first of them.
 const LENGTH: usize = 26;
@@ -16,7 +16,7 @@ const REST: usize = 11;
 
 // Whether one of the bytes 11 to 25 is not zero.
 fn rest_set(telegram: &[u8]) -> bool
-    ensures { result ≡ restSet telegram.now }
+    ensures { result ≡ rest_set telegram.now }
 {
     let mut i = REST;
     while i < LENGTH {
@@ -30,7 +30,7 @@ fn rest_set(telegram: &[u8]) -> bool
 
 // Whether a bit is set that must be zero (row 17).
 fn zero_bit_set(telegram: &[u8]) -> bool
-    ensures { result ≡ zeroBitSet telegram.now }
+    ensures { result ≡ zero_bit_set telegram.now }
 {
     if wire::byte_at(telegram, 1) >= CABS {
         return true;
@@ -46,7 +46,7 @@ fn zero_bit_set(telegram: &[u8]) -> bool
 
 // The refusal of a telegram, or 0.
 pub fn refusal_of(telegram: &[u8]) -> u8
-    ensures { result ≡ trainRefusal telegram.now }
+    ensures { result ≡ train_refusal telegram.now }
 {
     if telegram.len() != LENGTH {
         return 10;

@@ -1,21 +1,21 @@
 -- Reading a telegram from the train: its refusal or its states, and what it is that states show a telegram.
 use Rattle.std.specs.Prelude.{ℕ, ◌%◌, ◌<◌, cond, List, ◌↔◌, ◌≡◌, eqb, get_or}
-use Rattle.kit.specs.Bytes.{bit, word_at, longAt}
-use Rattle.wire.specs.Verdicts.{verdictOf}
+use Rattle.kit.specs.Bytes.{bit, word_at, long_at}
+use Rattle.wire.specs.Verdicts.{verdict_of}
 use Rattle.train_codes.specs.Origins.{CabCode, BrakeCode, IsolationCode, TractionCode}
-use Rattle.train_codes.specs.Refusals.{trainRefusal}
+use Rattle.train_codes.specs.Refusals.{train_refusal}
 use Rattle.train_codes.specs.declared.Brake.{Brake}
 use Rattle.train_codes.specs.declared.Cab.{Cab}
 use Rattle.train_codes.specs.declared.Isolation.{Isolation}
 use Rattle.train_codes.specs.declared.Traction.{Traction}
-use Rattle.train_telegram.specs.States.{statesOf, silent}
+use Rattle.train_telegram.specs.States.{states_of, silent}
 use Rattle.train_telegram.specs.declared.Reading.{Reading}
 use Rattle.train_telegram.specs.declared.states.National.{National}
 use Rattle.train_telegram.specs.declared.states.States.{States}
 
 -- W-05, S-12, C-12: the answer, and the states that are said; beside a refusal every signal is silent
-unfoldable pub trainReading : List ℕ → Reading
-trainReading t = record { verdict = verdictOf (trainRefusal t); states = cond (eqb (trainRefusal t) 0) (statesOf t) silent }
+unfoldable pub train_reading : List ℕ → Reading
+train_reading t = record { verdict = verdict_of (train_refusal t); states = cond (eqb (train_refusal t) 0) (states_of t) silent }
 
 -- M-2c, M-2e, S-12: these states show a telegram: each signal has the state whose code stands in its own bits, and no other
 pub record Shows (states : States) (t : List ℕ) : Type 0 where
@@ -23,4 +23,4 @@ pub record Shows (states : States) (t : List ℕ) : Type 0 where
   pub brake : (state : Brake) → (states.brake ≡ state) ↔ BrakeCode state (get_or t 2 0 % 8)
   pub national : (other : National) (i : ℕ) → i < 16 → (state : Isolation)
       → ((get_or states.national i other).isolation ≡ state) ↔ IsolationCode state (bit i (word_at t 3)) (bit i (word_at t 5))
-  pub traction : (state : Traction) → (states.traction ≡ state) ↔ TractionCode state (longAt t 7)
+  pub traction : (state : Traction) → (states.traction ≡ state) ↔ TractionCode state (long_at t 7)

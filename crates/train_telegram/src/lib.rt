@@ -2,7 +2,7 @@
 mod states;
 
 ghost use Rattle.std.specs.Prelude.{◌≡◌};
-ghost use Rattle.train_telegram.specs.Readings.{trainReading};
+ghost use Rattle.train_telegram.specs.Readings.{train_reading};
 
 pub use states::{National, States};
 use wire::Verdict;
@@ -16,7 +16,7 @@ pub struct Reading {
 
 // What a telegram of any bytes and any length says, or its refusal.
 pub fn read(telegram: &[u8]) -> Reading
-    ensures { result ≡ trainReading telegram.now }
+    ensures { result ≡ train_reading telegram.now }
 {
     let refusal = train_codes::refusal_of(telegram);
     if refusal != 0 {

@@ -1,6 +1,6 @@
 // The states of all signals, by the codes that they have in a telegram.
 ghost use Rattle.std.specs.Prelude.{◌≡◌};
-ghost use Rattle.train_telegram.specs.States.{nationalOf, silent, statesOf};
+ghost use Rattle.train_telegram.specs.States.{national_of, silent, states_of};
 
 use train_codes::{Brake, Cab, Isolation, Traction};
 
@@ -41,7 +41,7 @@ impl States {
 
 // The sixteen systems, from the lowest bits of the two words up.
 fn national_of(isolated: u16, inverse: u16) -> [National; 16]
-    ensures { result ≡ nationalOf isolated inverse }
+    ensures { result ≡ national_of isolated inverse }
 {
     let none = National {
         isolation: Isolation::Silent,
@@ -62,7 +62,7 @@ fn national_of(isolated: u16, inverse: u16) -> [National; 16]
 
 // The states that a telegram says by its codes.
 pub fn states_of(telegram: &[u8]) -> States
-    ensures { result ≡ statesOf telegram.now }
+    ensures { result ≡ states_of telegram.now }
 {
     let cabs = wire::byte_at(telegram, 1);
     let cab = train_codes::cab_of(cabs / 2 % 2 == 1, cabs % 2 == 1);

@@ -3,59 +3,59 @@ use Rattle.std.proofs.Common.{◌≡◌, ℕ, ◌≤◌, Bool, cond, eqb, ◌↔
 use borrow.Author.Tests.{eqb-false}
 use Rattle.kit.specs.Ladder.{ladder, Decides, NoneHolds, Numbered}
 use Rattle.kit.proofs.Cases.{on}
-use Rattle.kit.proofs.Ladder.{refused-exactly, passed-exactly, decides-positive}
-use Rattle.wire.specs.Verdicts.{Ruling, rulingOf, number_of, verdictOf}
+use Rattle.kit.proofs.Ladder.{refused-exactly, passed-exactly, decides_positive}
+use Rattle.wire.specs.Verdicts.{Ruling, ruling_of, number_of, verdict_of}
 use Rattle.wire.specs.declared.verdicts.Verdict.{Verdict}
 use Rattle.wire.specs.declared.verdicts.Verdict.TheVariants.{Accepted, Refused}
 
 -- C-12: no two verdicts tell the same
-verdictBy : Ruling → Verdict
-verdictBy ruling = cond ruling.refused (Refused ruling.number) Accepted
+verdict_by : Ruling → Verdict
+verdict_by ruling = cond ruling.refused (Refused ruling.number) Accepted
 
-ruling-back : (verdict : Verdict) → verdictBy (rulingOf verdict) ≡ verdict
-unfolding verdictBy
-ruling-back Accepted = refl
-ruling-back (Refused number) = refl
+ruling_back : (verdict : Verdict) → verdict_by (ruling_of verdict) ≡ verdict
+unfolding verdict_by
+ruling_back Accepted = refl
+ruling_back (Refused number) = refl
 
-pub ruling-apart : (one other : Verdict) → rulingOf one ≡ rulingOf other → one ≡ other
-ruling-apart one other e = sym (ruling-back one) ∙ (ap verdictBy e ∙ ruling-back other)
+pub ruling_apart : (one other : Verdict) → ruling_of one ≡ ruling_of other → one ≡ other
+ruling_apart one other e = sym (ruling_back one) ∙ (ap verdict_by e ∙ ruling_back other)
 
-pub accepted-or-refused : (number : ℕ) → Accepted ≡ Refused number → ⊥
-accepted-or-refused number e = let z : ◌≡◌ {A = ℕ} 0 1 = cc in omega arith
+pub accepted_or_refused : (number : ℕ) → Accepted ≡ Refused number → ⊥
+accepted_or_refused number e = let z : ◌≡◌ {A = ℕ} 0 1 = cc in omega arith
 
-pub verdict-accepted : (number : ℕ) → number ≡ 0 → verdictOf number ≡ Accepted
-unfolding verdictOf
+pub verdict-accepted : (number : ℕ) → number ≡ 0 → verdict_of number ≡ Accepted
+unfolding verdict_of
 verdict-accepted number e = rw (eq-eqb number 0 e) refl
 
-pub verdict-refused : (number : ℕ) → (number ≡ 0 → ⊥) → verdictOf number ≡ Refused number
-unfolding verdictOf
+pub verdict-refused : (number : ℕ) → (number ≡ 0 → ⊥) → verdict_of number ≡ Refused number
+unfolding verdict_of
 verdict-refused number e = rw (ne_eqb number 0 e) refl
 
 -- a verdict tells its number, so that two numbers never share one
-pub number-verdict : (number : ℕ) → number_of (verdictOf number) ≡ number
-unfolding verdictOf
+pub number-verdict : (number : ℕ) → number_of (verdict_of number) ≡ number
+unfolding verdict_of
 number-verdict number = on (eqb number 0) (λ e. rw e (sym (eqb-true number 0 e))) (λ e. rw e refl)
 
-pub verdict-number : {number : ℕ} (verdict : Verdict) → verdictOf number ≡ verdict → number ≡ number_of verdict
+pub verdict-number : {number : ℕ} (verdict : Verdict) → verdict_of number ≡ verdict → number ≡ number_of verdict
 verdict-number {number} verdict e = sym (number-verdict number) ∙ ap number_of e
 
 -- R-23: a refusal is given when its row holds and nothing earlier does, and never else
 module _ (rows : List (Bool × ℕ)) (numbered : Numbered rows) where
-  pub refused-when : (number : ℕ) → (verdictOf (ladder 0 rows) ≡ Refused number) ↔ Decides rows number
-  refused-when number = (there, back)
+  pub refused_when : (number : ℕ) → (verdict_of (ladder 0 rows) ≡ Refused number) ↔ Decides rows number
+  refused_when number = (there, back)
     where
-      there : verdictOf (ladder 0 rows) ≡ Refused number → Decides rows number
+      there : verdict_of (ladder 0 rows) ≡ Refused number → Decides rows number
       there e =
           let n : ladder 0 rows ≡ number = verdict-number (Refused number) e in
           on (eqb (ladder 0 rows) 0)
-          (λ z. absurd (accepted-or-refused number (sym (verdict-accepted (ladder 0 rows) (eqb-true _ 0 z)) ∙ e)))
+          (λ z. absurd (accepted_or_refused number (sym (verdict-accepted (ladder 0 rows) (eqb-true _ 0 z)) ∙ e)))
           (λ z. (refused-exactly rows numbered number (omega (arith, eqb-false (ladder 0 rows) 0 z))).0 n)
 
-      back : Decides rows number → verdictOf (ladder 0 rows) ≡ Refused number
+      back : Decides rows number → verdict_of (ladder 0 rows) ≡ Refused number
       back d =
-          let p : 1 ≤ number = decides-positive rows number numbered d in
+          let p : 1 ≤ number = decides_positive rows number numbered d in
           let n : ladder 0 rows ≡ number = (refused-exactly rows numbered number p).1 d in
-          ap verdictOf n ∙ verdict-refused number (λ z. omega arith)
+          ap verdict_of n ∙ verdict-refused number (λ z. omega arith)
 
-  pub accepted-when : (verdictOf (ladder 0 rows) ≡ Accepted) ↔ NoneHolds rows
-  accepted-when = (λ e. (passed-exactly rows numbered).0 (verdict-number Accepted e), λ s. verdict-accepted (ladder 0 rows) ((passed-exactly rows numbered).1 s))
+  pub accepted_when : (verdict_of (ladder 0 rows) ≡ Accepted) ↔ NoneHolds rows
+  accepted_when = (λ e. (passed-exactly rows numbered).0 (verdict-number Accepted e), λ s. verdict-accepted (ladder 0 rows) ((passed-exactly rows numbered).1 s))

@@ -1,6 +1,6 @@
--- The answers of a call that may refuse, in the numbers of document 01 (C-12). A contract says which verdict it is by `verdictOf`, the
--- verdict with a number. The pages speak of a verdict by what `rulingOf` tells of it, which is different for every two verdicts
--- (`ruling-apart` in proofs/Answers.antt); of the verdict with a number it tells that number (`number-verdict`).
+-- The answers of a call that may refuse, in the numbers of document 01 (C-12). A contract says which verdict it is by `verdict_of`, the
+-- verdict with a number. The pages speak of a verdict by what `ruling_of` tells of it, which is different for every two verdicts
+-- (`ruling_apart` in proofs/Answers.antt); of the verdict with a number it tells that number (`number-verdict`).
 use Rattle.std.specs.Prelude.{ℕ, Bool, true, false, cond, ◌==◌}
 use Rattle.wire.specs.declared.verdicts.Verdict.{Verdict}
 use Rattle.wire.specs.declared.verdicts.Verdict.TheVariants.{Accepted, Refused}
@@ -10,21 +10,21 @@ pub record Ruling : Type 0 where
   pub refused : Bool
   pub number : ℕ
 
-abbrev pub ruledAccepted : Ruling
-ruledAccepted = record { refused = false; number = 0 }
+abbrev pub ruled_accepted : Ruling
+ruled_accepted = record { refused = false; number = 0 }
 
-abbrev pub ruledRefused : ℕ → Ruling
-ruledRefused number = record { refused = true; number = number }
+abbrev pub ruled_refused : ℕ → Ruling
+ruled_refused number = record { refused = true; number = number }
 
 -- C-12: what each case of the code's enum tells
-abbrev pub rulingOf : Verdict → Ruling
-rulingOf Accepted = ruledAccepted
-rulingOf (Refused number) = ruledRefused number
+abbrev pub ruling_of : Verdict → Ruling
+ruling_of Accepted = ruled_accepted
+ruling_of (Refused number) = ruled_refused number
 
 -- C-12: the number that a verdict gives, 0 where nothing is refused
 abbrev pub number_of : Verdict → ℕ
-number_of verdict = (rulingOf verdict).number
+number_of verdict = (ruling_of verdict).number
 
 -- C-12: the verdict with a number
-unfoldable pub verdictOf : ℕ → Verdict
-verdictOf number = cond (number == 0) Accepted (Refused number)
+unfoldable pub verdict_of : ℕ → Verdict
+verdict_of number = cond (number == 0) Accepted (Refused number)

@@ -1,10 +1,10 @@
 // Bytes, words and longer numbers, high byte first. Past the end of a slice every byte is 0, so that no function asks for a length.
 ghost use Rattle.std.specs.Prelude.{◌≡◌, slice_index};
-ghost use Rattle.kit.specs.Bytes.{wordOfTwo, word_at, longAt};
+ghost use Rattle.kit.specs.Bytes.{word_of_two, word_at, long_at};
 
 // A word of two bytes, high byte first.
 pub fn word(high: u8, low: u8) -> u16
-    ensures { result ≡ wordOfTwo high low }
+    ensures { result ≡ word_of_two high low }
 {
     high as u16 * 256 + low as u16
 }
@@ -29,7 +29,7 @@ pub fn word_at(list: &[u8], i: usize) -> u16
 
 // The number of the four bytes from index i on.
 pub fn long_at(list: &[u8], i: usize) -> u32
-    ensures { result ≡ longAt list.now i }
+    ensures { result ≡ long_at list.now i }
 {
     if i < list.len() {
         return word_at(list, i) as u32 * 0x10000 + word_at(list, i + 2) as u32;

@@ -7,20 +7,20 @@ use native.Mathlib.Omega.{arith}
 use borrow.Author.Rules.{rules}
 use borrow.Author.Tests.{eqb-true, eqb-false}
 use Rattle.kit.proofs.Cases.{on}
-use Rattle.condition.specs.Slots.{slotCount}
-use Rattle.order_list.specs.Lists.{order_at, foundAt}
+use Rattle.condition.specs.Slots.{slot_count}
+use Rattle.order_list.specs.Lists.{order_at, found_at}
 use Rattle.order_list.specs.declared.Order.{Order}
 use Rattle.arriving.specs.Arriving.{AllFound}
 use Rattle.arriving.proofs.past_live.Statement.{statement}
 use Rattle.arriving.proofs.past_live.Tie as tie
 
-passed-more : (live list : List ℕ) (from j at : ℕ) (order : Order) → order ≡ order_at list j → at ≡ foundAt live order.number → at < slotCount
+passed-more : (live list : List ℕ) (from j at : ℕ) (order : Order) → order ≡ order_at list j → at ≡ found_at live order.number → at < slot_count
     → AllFound live list from j → AllFound live list from (j + 1)
 passed-more live list from j at order e found p before i a b =
     on (eqb i j)
     (λ here.
-    subst (λ (k : ℕ). foundAt live (order_at list k).number < slotCount) (sym (eqb-true i j here))
-    (subst (λ (o : Order). foundAt live o.number < slotCount) e (subst (λ (k : ℕ). k < slotCount) found p)))
+    subst (λ (k : ℕ). found_at live (order_at list k).number < slot_count) (sym (eqb-true i j here))
+    (subst (λ (o : Order). found_at live o.number < slot_count) e (subst (λ (k : ℕ). k < slot_count) found p)))
     (λ there. before i a (omega (arith, eqb-false i j there)))
 
 abbrev invariant-loop : tie.invariant-loop

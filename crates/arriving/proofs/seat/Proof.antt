@@ -10,26 +10,26 @@ use native.Mathlib.Omega.{arith}
 use borrow.Author.Rules.{rules}
 use borrow.Author.Tests.{lt-ltb, le-ltb}
 use Rattle.condition.specs.declared.slots.Body.{Body}
-use Rattle.places.specs.Places.{placeOf, lowestFree, isLive}
-use Rattle.condition.specs.Slots.{slotCount}
+use Rattle.places.specs.Places.{place_of, lowest_free, is_live}
+use Rattle.condition.specs.Slots.{slot_count}
 use Rattle.order_list.specs.declared.Order.{Order}
 use Rattle.places.specs.declared.Place.{Place}
-use Rattle.places.proofs.Live.{lowest-free}
-use Rattle.resting.specs.Rests.{isResting}
-use Rattle.numbers.specs.Numbers.{nextNumber}
-use Rattle.leaving.specs.Leaving.{bodyIn}
+use Rattle.places.proofs.Live.{lowest_free_lem}
+use Rattle.resting.specs.Rests.{is_resting}
+use Rattle.numbers.specs.Numbers.{next_number}
+use Rattle.leaving.specs.Leaving.{body_in}
 use Rattle.arriving.specs.Arriving.{seated}
 use Rattle.arriving.specs.declared.Seats.{Seats}
 use Rattle.arriving.proofs.Seated.{seated-live, seated-new}
 use Rattle.arriving.proofs.seat.Statement.{statement}
 use Rattle.arriving.proofs.seat.Tie as tie
 
-module _ (order : Order) (seats : Seats) (at : ℕ) (found : at ≡ placeOf seats.places order.number) where
-  live : at < slotCount → isLive seats.places order.number ≡ true
-  live p = subst (λ k. ltb k slotCount ≡ true) found (lt-ltb at slotCount p)
+module _ (order : Order) (seats : Seats) (at : ℕ) (found : at ≡ place_of seats.places order.number) where
+  live : at < slot_count → is_live seats.places order.number ≡ true
+  live p = subst (λ k. ltb k slot_count ≡ true) found (lt-ltb at slot_count p)
 
-  unlive : slotCount ≤ at → isLive seats.places order.number ≡ false
-  unlive p = subst (λ k. ltb k slotCount ≡ false) found (le-ltb at slotCount p)
+  unlive : slot_count ≤ at → is_live seats.places order.number ≡ false
+  unlive p = subst (λ k. ltb k slot_count ≡ false) found (le-ltb at slot_count p)
 
 -- the place that a new order takes
 abbrev placed : Order → ℕ → Body → Place
@@ -39,18 +39,18 @@ placed order number body = record { order = order.number; slot = record { number
 abbrev with : Seats → Order → ℕ → ℕ → Body → Seats
 with seats order number at body = record { places = set seats.places at (placed order number body); last = number }
 
-wrote : (resting : ℕ → Bool) (order : Order) (seats : Seats) (number at : ℕ) (body : Body) → isLive seats.places order.number ≡ false
-    → number ≡ nextNumber resting seats.places seats.last → at ≡ lowestFree seats.places → body ≡ bodyIn order
+wrote : (resting : ℕ → Bool) (order : Order) (seats : Seats) (number at : ℕ) (body : Body) → is_live seats.places order.number ≡ false
+    → number ≡ next_number resting seats.places seats.last → at ≡ lowest_free seats.places → body ≡ body_in order
     → with seats order number at body ≡ seated resting order seats
 wrote resting order seats number at body new a b c = rw (a, b, c) (sym (seated-new resting order seats new))
 
 -- where no place is free, what is stored past the end changes none
-crowded : (resting : ℕ → Bool) (order : Order) (seats : Seats) (number at : ℕ) → isLive seats.places order.number ≡ false
-    → number ≡ nextNumber resting seats.places seats.last → at ≡ lowestFree seats.places → length seats.places ≤ at
+crowded : (resting : ℕ → Bool) (order : Order) (seats : Seats) (number at : ℕ) → is_live seats.places order.number ≡ false
+    → number ≡ next_number resting seats.places seats.last → at ≡ lowest_free seats.places → length seats.places ≤ at
     → ◌≡◌ {A = Seats} (record { places = seats.places; last = number }) (seated resting order seats)
 crowded resting order seats number at new a b past =
-    ap (λ (l : List Place). record { places = l; last = number }) (sym (set_out seats.places at (placed order number (bodyIn order)) past))
-    ∙ wrote resting order seats number at (bodyIn order) new a b refl
+    ap (λ (l : List Place). record { places = l; last = number }) (sym (set_out seats.places at (placed order number (body_in order)) past))
+    ∙ wrote resting order seats number at (body_in order) new a b refl
 
 place-of-requires : tie.Need-place-of-requires
 place-of-requires c κs = search rules
@@ -72,11 +72,11 @@ returns-2 c =
     let searched = number.before.before in
     let start = searched.before.before in
     let a = start.args in
-    let twenty : length a.seats.places ≡ slotCount = sym (length-map a.seats.places _) ∙ start.well-formed.0.1.1.0.1.0.1 in
+    let twenty : length a.seats.places ≡ slot_count = sym (length-map a.seats.places _) ∙ start.well-formed.0.1.1.0.1.0.1 in
     let past : length a.seats.places ≤ c.before.place-of2.result = omega (arith, twenty, c.if2.true) in
-    crowded (isResting a.rest a.step a.ended) a.order a.seats _ _
+    crowded (is_resting a.rest a.step a.ended) a.order a.seats _ _
     (unlive a.order a.seats _ searched.place_of.ensures number.before.if1.false)
-    number.next-number.ensures (c.before.place-of2.ensures ∙ lowest-free a.seats.places) past
+    number.next-number.ensures (c.before.place-of2.ensures ∙ lowest_free_lem a.seats.places) past
 
 body-of-requires : tie.Need-body-of-requires
 body-of-requires c κs = search rules
@@ -93,9 +93,9 @@ returns-3 c =
     let number = found.before in
     let searched = number.before.before in
     let a = searched.before.before.args in
-    wrote (isResting a.rest a.step a.ended) a.order a.seats _ _ _
+    wrote (is_resting a.rest a.step a.ended) a.order a.seats _ _ _
     (unlive a.order a.seats _ searched.place_of.ensures number.before.if1.false)
-    number.next-number.ensures (found.place-of2.ensures ∙ lowest-free a.seats.places) c.body_of.ensures
+    number.next-number.ensures (found.place-of2.ensures ∙ lowest_free_lem a.seats.places) c.body_of.ensures
 
 pub seat-spec : {M : Type 1} → statement M
 seat-spec =

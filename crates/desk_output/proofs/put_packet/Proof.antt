@@ -1,7 +1,7 @@
 -- `put_packet`: the telegram fills the 26 bytes, and they are put one after another.
-use Rattle.kit.proofs.Put.{poured-as}
+use Rattle.kit.proofs.Put.{poured_as}
 use mathlib.Core.Path.{sym, ◌∙◌, refl}
-use Rattle.telegram.proofs.Refusals.{packet-fills}
+use Rattle.telegram.proofs.Refusals.{packet_fills}
 use borrow.Author.Rules.{rules}
 use Rattle.desk_output.proofs.put_packet.Statement.{statement}
 use Rattle.desk_output.proofs.put_packet.Tie as tie
@@ -26,7 +26,7 @@ returns c =
     let written = c.before.before.before.before.before.before.write.ensures.1 in
     let start = c.before.before.before.before.before.before.before.before.before in
     let a = start.args in
-    poured-as (sym (written ∙ packet-fills (record { packet = a.packet; step = a.step; slots = a.slots }) _ start.requires.0 start.requires.1 refl))
+    poured_as (sym (written ∙ packet_fills (record { packet = a.packet; step = a.step; slots = a.slots }) _ start.requires.0 start.requires.1 refl))
     c.before.before.put-words.ensures
 
 pub put-packet-spec : {M : Type 1} → statement M

@@ -1,6 +1,6 @@
 -- `put_refused`: the words and the two numbers, one after another.
 use Rattle.kit.proofs.Put.{poured-then}
-use Rattle.desk_output.specs.Outputs.{refusedListLine}
+use Rattle.desk_output.specs.Outputs.{refused_list_line}
 use borrow.Author.Rules.{rules}
 use Rattle.desk_output.proofs.put_refused.Statement.{statement}
 use Rattle.desk_output.proofs.put_refused.Tie as tie
@@ -30,7 +30,7 @@ same_length : tie.Need-same-length
 same_length c = search rules
 
 returns : tie.Need-returns
-unfolding refusedListLine
+unfolding refused_list_line
 returns c = poured-then c.before.before.before.before.before.before.before.before.before.before.before.before.before.before.before.before.before.before.before.put-words.ensures
     (poured-then c.before.before.before.before.before.before.before.before.before.before.before.before.before.before.before.put-decimal.ensures (poured-then c.before.before.before.before.before.before.before.before.before.before.put-words2.ensures (poured-then c.before.before.before.before.before.before.put-decimal2.ensures c.before.before.put_byte.ensures)))
 

@@ -1,5 +1,5 @@
 -- `put_short`: the words are those of the line.
-use Rattle.desk_output.specs.Outputs.{shortListLine}
+use Rattle.desk_output.specs.Outputs.{short_list_line}
 use borrow.Author.Rules.{rules}
 use Rattle.desk_output.proofs.put_short.Statement.{statement}
 use Rattle.desk_output.proofs.put_short.Tie as tie
@@ -14,7 +14,7 @@ same_length : tie.Need-same-length
 same_length c = search rules
 
 returns : tie.Need-returns
-unfolding shortListLine
+unfolding short_list_line
 returns c = c.before.before.put-words.ensures
 
 pub put-short-spec : {M : Type 1} → statement M

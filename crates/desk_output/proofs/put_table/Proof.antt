@@ -4,15 +4,15 @@ use mathlib.Core.List.{List}
 use mathlib.Core.Path.{◌≡◌, sym, ap, ◌∙◌}
 use borrow.Author.Rules.{rules}
 use Rattle.kit.specs.Put.{Poured}
-use Rattle.kit.proofs.Put.{poured-as, poured-then}
+use Rattle.kit.proofs.Put.{poured_as, poured-then}
 use Rattle.condition.specs.declared.slots.Slot.{Slot}
-use Rattle.telegram.specs.Tables.{fourOf}
+use Rattle.telegram.specs.Tables.{four_of}
 use Rattle.telegram.specs.Telegrams.{bytes_of}
 use Rattle.telegram.specs.declared.Telegram.{Telegram}
-use Rattle.desk.specs.Desks.{table_of, packetOf}
+use Rattle.desk.specs.Desks.{table_of, packet_of}
 use Rattle.desk.specs.declared.Desk.{Desk}
 use Rattle.desk.proofs.Tables.{telegram-is}
-use Rattle.desk_output.specs.Outputs.{fiveTelegrams}
+use Rattle.desk_output.specs.Outputs.{five_telegrams}
 use Rattle.desk_output.proofs.put_table.Statement.{statement}
 use Rattle.desk_output.proofs.put_table.Tie as tie
 
@@ -21,11 +21,11 @@ carrying desk packet four = record { packet = packet; step = desk.step; slots = 
 
 -- a packet with its four slots of the table is that of the desk
 module _ (desk : Desk) (table : List Slot) (e : table ≡ table_of desk) where
-  packed : (packet : ℕ) (four : List Slot) {l m : List ℕ} {at next : ℕ} → four ≡ fourOf table packet
-      → Poured l at (bytes_of (carrying desk packet four)) m next → Poured l at (bytes_of (packetOf desk packet)) m next
+  packed : (packet : ℕ) (four : List Slot) {l m : List ℕ} {at next : ℕ} → four ≡ four_of table packet
+      → Poured l at (bytes_of (carrying desk packet four)) m next → Poured l at (bytes_of (packet_of desk packet)) m next
   packed packet four f =
-      poured-as
-      (ap bytes_of (telegram-is desk packet ∙ ap (carrying desk packet) (sym (f ∙ ap (λ (t : List Slot). fourOf t packet) e))))
+      poured_as
+      (ap bytes_of (telegram-is desk packet ∙ ap (carrying desk packet) (sym (f ∙ ap (λ (t : List Slot). four_of t packet) e))))
 
 table-of-requires : tie.Need-table-of-requires
 table-of-requires c κs = search rules
@@ -64,7 +64,7 @@ same_length : tie.Need-same-length
 same_length c = search rules
 
 returns : tie.Need-returns
-unfolding fiveTelegrams
+unfolding five_telegrams
 returns c =
     let fifth = c.before.before in
     let fourth = fifth.before.before.before.before.before in

@@ -2,15 +2,15 @@
 use Prim.Native.Nat.{ℕ}
 use mathlib.Core.Path.{◌≡◌, sym, ap, ◌∙◌}
 use borrow.Author.Rules.{rules}
-use Rattle.kit.proofs.Put.{poured-none, poured-as}
+use Rattle.kit.proofs.Put.{poured-none, poured_as}
 use Rattle.wire.specs.declared.verdicts.Verdict.{Verdict}
 use Rattle.desk.specs.declared.Answer.{Answer}
-use Rattle.desk_runs.specs.Runs.{tableFor, line_for}
+use Rattle.desk_runs.specs.Runs.{table_for, line_for}
 use Rattle.desk_runs.proofs.take.Statement.{statement}
 use Rattle.desk_runs.proofs.take.Tie as tie
 
-table-of : {answer said : Answer} {verdict : Verdict} → answer ≡ said → answer.verdict ≡ verdict → tableFor said.verdict said.desk ≡ tableFor verdict answer.desk
-table-of {answer} e v = sym (ap (λ (a : Answer). tableFor a.verdict a.desk) e) ∙ ap (λ (w : Verdict). tableFor w answer.desk) v
+table-of : {answer said : Answer} {verdict : Verdict} → answer ≡ said → answer.verdict ≡ verdict → table_for said.verdict said.desk ≡ table_for verdict answer.desk
+table-of {answer} e v = sym (ap (λ (a : Answer). table_for a.verdict a.desk) e) ∙ ap (λ (w : Verdict). table_for w answer.desk) v
 
 line_of : {answer said : Answer} {verdict : Verdict} (list : ℕ) → answer ≡ said → answer.verdict ≡ verdict → line_for said.verdict list ≡ line_for verdict list
 line_of list e v = sym (ap (λ (a : Answer). line_for a.verdict list) e) ∙ ap (λ (w : Verdict). line_for w list) v
@@ -39,8 +39,8 @@ returns c =
     let same = c.before.before.before.before.before.before.before.accept.ensures in
     let told = c.before.before.before.before.enum_told.given.1 in (
       ap (λ (a : Answer). a.desk) same,
-      poured-as (table-of same told) c.before.before.put-table.ensures,
-      poured-as (line_of start.args.lists same told) (poured-none start.args.lines.now start.args.ran.lines start.requires.2),
+      poured_as (table-of same told) c.before.before.put-table.ensures,
+      poured_as (line_of start.args.lists same told) (poured-none start.args.lines.now start.args.ran.lines start.requires.2),
     )
 
 same-length-2 : tie.Need-same-length-2
@@ -52,8 +52,8 @@ returns-2 c =
     let same = c.before.before.before.before.before.before.before.before.accept.ensures in
     let told = c.before.before.before.before.before.verdict.given.1 in (
       ap (λ (a : Answer). a.desk) same,
-      poured-as (table-of same told) (poured-none start.args.tables.now start.args.ran.tables start.requires.1),
-      poured-as (line_of start.args.lists same told) c.before.before.Put-refused.ensures,
+      poured_as (table-of same told) (poured-none start.args.tables.now start.args.ran.tables start.requires.1),
+      poured_as (line_of start.args.lists same told) c.before.before.Put-refused.ensures,
     )
 
 pub take_spec : {M : Type 1} → statement M

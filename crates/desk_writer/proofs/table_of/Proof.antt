@@ -6,10 +6,10 @@ use lib.ListN.{length, length-map}
 use native.Mathlib.Omega.{arith}
 use borrow.Author.Rules.{rules}
 use Rattle.kit.specs.Fill.{Filled}
-use Rattle.kit.proofs.Fill.{mapped-none, mapped-more, mapped-all}
-use Rattle.condition.specs.Slots.{emptySlot, slotCount}
+use Rattle.kit.proofs.Fill.{mapped_none, mapped_more, mapped_all}
+use Rattle.condition.specs.Slots.{empty_slot, slot_count}
 use Rattle.condition.specs.declared.slots.Slot.{Slot}
-use Rattle.places.specs.Places.{freePlace}
+use Rattle.places.specs.Places.{free_place}
 use Rattle.places.specs.declared.Place.{Place}
 use Rattle.desk.specs.Desks.{table_of}
 use Rattle.desk_writer.proofs.table_of.Statement.{statement}
@@ -19,12 +19,12 @@ abbrev slot : Place → Slot
 slot place = place.slot
 
 abbrev invariant-loop : tie.invariant-loop
-invariant-loop places table₀ i₀ table i = (i ≤ slotCount) × Filled emptySlot (map slot places) i table
+invariant-loop places table₀ i₀ table i = (i ≤ slot_count) × Filled empty_slot (map slot places) i table
 
 abbrev decreases-loop : tie.decreases-loop
-decreases-loop places table₀ i₀ table i = slotCount - i
+decreases-loop places table₀ i₀ table i = slot_count - i
 
-twenty : (start : tie.Start invariant-loop decreases-loop) → length start.args.desk.places ≡ slotCount
+twenty : (start : tie.Start invariant-loop decreases-loop) → length start.args.desk.places ≡ slot_count
 twenty start = sym (length-map start.args.desk.places _) ∙ start.well-formed.0.1.1.0.1.0.1
 
 empty-requires : tie.Need-empty-requires invariant-loop decreases-loop
@@ -33,7 +33,7 @@ empty-requires c κs = search rules
 loop-holds : tie.Need-loop-init invariant-loop decreases-loop
 loop-holds c =
     let start = c.before.before in
-    (search rules, mapped-none slot start.args.desk.places (sym (twenty start)))
+    (search rules, mapped_none slot start.args.desk.places (sym (twenty start)))
 
 mul-place : tie.Need-overflow-mul-place invariant-loop decreases-loop
 mul-place c = search rules
@@ -58,16 +58,16 @@ loop-again c =
     let l = c.before.before.before.loop in
     let start = c.before.before.before.before.before.before in
     let places = start.args.desk.places in
-    let p : l.i < slotCount = search rules in
-    (search rules, mapped-more slot places freePlace (omega (arith, twenty start)) l.invariant.1 refl)
+    let p : l.i < slot_count = search rules in
+    (search rules, mapped_more slot places free_place (omega (arith, twenty start)) l.invariant.1 refl)
 
 returns : tie.Need-returns invariant-loop decreases-loop
 unfolding table_of
 returns c =
     let l = c.before.loop in
     let start = c.before.before.before.before in
-    let past : slotCount ≤ l.i = search rules in
-    mapped-all slot start.args.desk.places (omega (arith, twenty start)) l.invariant.1
+    let past : slot_count ≤ l.i = search rules in
+    mapped_all slot start.args.desk.places (omega (arith, twenty start)) l.invariant.1
 
 pub table-of-spec : {M : Type 1} → statement M
 table-of-spec =

@@ -1,7 +1,7 @@
 -- `write`: the telegram that is written is the table's.
 use mathlib.Core.Path.{sym}
 use borrow.Author.Rules.{rules}
-use Rattle.desk.specs.Desks.{packetOf}
+use Rattle.desk.specs.Desks.{packet_of}
 use Rattle.desk_writer.proofs.write.Statement.{statement}
 use Rattle.desk_writer.proofs.write.Tie as tie
 
@@ -18,7 +18,7 @@ same_length : tie.Need-same-length
 same_length c = search rules
 
 returns : tie.Need-returns
-unfolding packetOf
+unfolding packet_of
 returns c =
     simp (sym c.before.before.before.before.before.table-of.ensures, sym c.before.before.before.before.four-of.ensures) c.before.before.write.ensures
 

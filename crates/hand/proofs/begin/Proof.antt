@@ -6,14 +6,14 @@ use native.Mathlib.Omega.{arith}
 use Rattle.kit.specs.Put.{Put}
 use Rattle.kit.proofs.Maps.{replicate-at}
 use Rattle.kit.proofs.Put.{put_next, put_all}
-use Rattle.memory.specs.Memory.{heldFrom}
-use Rattle.hand.specs.Lent.{begunIn}
+use Rattle.memory.specs.Memory.{held_from}
+use Rattle.hand.specs.Lent.{begun_in}
 use borrow.Author.Rules.{rules}
 use Rattle.hand.proofs.begin.Statement.{statement}
 use Rattle.hand.proofs.begin.Tie as tie
 
 abbrev invariant-loop : tie.invariant-loop
-invariant-loop memory₀ step k₀ memory k = (k ≤ 145) × Put memory₀ heldFrom (take k (replicate 145 0)) memory (heldFrom + k)
+invariant-loop memory₀ step k₀ memory k = (k ≤ 145) × Put memory₀ held_from (take k (replicate 145 0)) memory (held_from + k)
 
 abbrev decreases-loop : tie.decreases-loop
 decreases-loop memory₀ step k₀ memory k = 145 - k
@@ -52,10 +52,10 @@ loop-again : tie.Need-loop-preserved invariant-loop decreases-loop
 loop-again c =
     let l = c.before.loop in
     let p : l.k < 145 = search rules in
-    (search rules, put_next (replicate 145 0) heldFrom l.k (omega (arith, length-replicate {A = ℕ} 145 0)) (sym (replicate-at 145 l.k 0)) l.invariant.1)
+    (search rules, put_next (replicate 145 0) held_from l.k (omega (arith, length-replicate {A = ℕ} 145 0)) (sym (replicate-at 145 l.k 0)) l.invariant.1)
 
 returns : tie.Need-returns invariant-loop decreases-loop
-unfolding begunIn
+unfolding begun_in
 returns c =
     let l = c.before.loop in
     let past : 145 ≤ l.k = search rules in

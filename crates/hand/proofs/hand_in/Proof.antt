@@ -1,5 +1,5 @@
 -- `hand_in`: its three parts.
-use Rattle.hand.specs.Lent.{handIn}
+use Rattle.hand.specs.Lent.{hand_in}
 use borrow.Author.Rules.{rules}
 use Rattle.hand.proofs.hand_in.Statement.{statement}
 use Rattle.hand.proofs.hand_in.Tie as tie
@@ -14,7 +14,7 @@ set-in-requires : tie.Need-set-in-requires
 set-in-requires c κs = search rules
 
 returns : tie.Need-returns
-unfolding handIn
+unfolding hand_in
 returns c =
     let held = c.before in
     let step = held.before in

@@ -5,10 +5,10 @@ use mathlib.Core.Path.{sym, ap, ◌∙◌}
 use lib.ListN.{get_or, get_or-eq_default}
 use native.Mathlib.Omega.{arith}
 use Rattle.telegram.specs.Tables.{packets}
-use Rattle.memory.specs.Memory.{heldFrom, flagsAt}
-use Rattle.memory.proofs.Slots.{flag-in, length-flags}
+use Rattle.memory.specs.Memory.{held_from, flags_at}
+use Rattle.memory.proofs.Slots.{flag_in, length_flags}
 use Rattle.hand.specs.Sets.{is_held}
-use Rattle.hand.specs.Lent.{handIn}
+use Rattle.hand.specs.Lent.{hand_in}
 use borrow.Author.Rules.{rules}
 use Rattle.hand.proofs.is_held.Statement.{statement}
 use Rattle.hand.proofs.is_held.Tie as tie
@@ -23,20 +23,20 @@ element-copy-out-result : tie.Need-element-copy-out-result
 element-copy-out-result c = search rules
 
 returns : tie.Need-returns
-unfolding is_held handIn
+unfolding is_held hand_in
 returns c =
     let place = c.before.before in
     let memory = place.before.args.memory.now in
-    sym (flag-in memory heldFrom packets place.place_of.result (search rules)) ∙ ap (λ (k : ℕ). get_or (flagsAt memory heldFrom packets) k false) place.place_of.ensures
+    sym (flag_in memory held_from packets place.place_of.result (search rules)) ∙ ap (λ (k : ℕ). get_or (flags_at memory held_from packets) k false) place.place_of.ensures
 
 returns-2 : tie.Need-returns-2
-unfolding is_held handIn
+unfolding is_held hand_in
 returns-2 c =
     let place = c.before in
     let memory = place.before.args.memory.now in
     sym
-    (ap (λ (k : ℕ). get_or (flagsAt memory heldFrom packets) k false) (sym place.place_of.ensures)
-    ∙ get_or-eq_default (flagsAt memory heldFrom packets) false {n = place.place_of.result} (omega (arith, length-flags memory heldFrom packets, c.if1.false)))
+    (ap (λ (k : ℕ). get_or (flags_at memory held_from packets) k false) (sym place.place_of.ensures)
+    ∙ get_or-eq_default (flags_at memory held_from packets) false {n = place.place_of.result} (omega (arith, length_flags memory held_from packets, c.if1.false)))
 
 pub is-held-spec : {M : Type 1} → statement M
 is-held-spec =

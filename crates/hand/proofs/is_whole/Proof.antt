@@ -10,9 +10,9 @@ use borrow.Author.Tests.{eq-eqb, ne_eqb, eqb-true, eqb-false}
 use Rattle.kit.proofs.Cases.{on, clash}
 use Rattle.kit.proofs.Loops.{count-all, all-counted}
 use Rattle.telegram.specs.Tables.{packets}
-use Rattle.memory.specs.Memory.{heldFrom}
-use Rattle.memory.proofs.Slots.{flag-in}
-use Rattle.hand.specs.Lent.{handIn}
+use Rattle.memory.specs.Memory.{held_from}
+use Rattle.memory.proofs.Slots.{flag_in}
+use Rattle.hand.specs.Lent.{hand_in}
 use Rattle.hand.specs.Sets.{is_whole}
 use Rattle.hand.specs.declared.Hand.{Hand}
 use borrow.Author.Rules.{rules}
@@ -38,12 +38,12 @@ unfolding is_whole
 whole hand all = sym (eq-eqb _ _ (count-all (λ i. get_or hand.held i false) packets all))
 
 -- the mark of packet k is the byte that stands there
-held-byte : (memory : List ℕ) (k : ℕ) (b : Bool) → k < packets → eqb (get_or memory (heldFrom + k) 0) 0 ≡ b → get_or (handIn memory).held k false ≡ not b
-unfolding handIn
-held-byte memory k b p e = flag-in memory heldFrom packets k p ∙ ap not e
+held-byte : (memory : List ℕ) (k : ℕ) (b : Bool) → k < packets → eqb (get_or memory (held_from + k) 0) 0 ≡ b → get_or (hand_in memory).held k false ≡ not b
+unfolding hand_in
+held-byte memory k b p e = flag_in memory held_from packets k p ∙ ap not e
 
 abbrev invariant-loop : tie.invariant-loop
-invariant-loop memory k₀ k = (k ≤ packets) × AllHeld (handIn memory).held k
+invariant-loop memory k₀ k = (k ≤ packets) × AllHeld (hand_in memory).held k
 
 abbrev decreases-loop : tie.decreases-loop
 decreases-loop memory k₀ k = packets - k
@@ -62,7 +62,7 @@ returns c =
     let l = c.before.before.before.loop in
     let memory = c.before.before.before.before.args.memory.now in
     let p : l.k < packets = c.before.before.loop-test.true in
-    missing (handIn memory) l.k p (held-byte memory l.k true p (eq-eqb _ _ c.if1.true))
+    missing (hand_in memory) l.k p (held-byte memory l.k true p (eq-eqb _ _ c.if1.true))
 
 add-k : tie.Need-overflow-add-k invariant-loop decreases-loop
 add-k c = search rules
@@ -75,12 +75,12 @@ loop-again c =
     let l = c.before.before.before.loop in
     let memory = c.before.before.before.before.args.memory.now in
     let p : l.k < packets = c.before.before.loop-test.true in
-    (search rules, held_more (handIn memory).held l.k l.invariant.1 (held-byte memory l.k false p (ne_eqb _ _ c.if1.false)))
+    (search rules, held_more (hand_in memory).held l.k l.invariant.1 (held-byte memory l.k false p (ne_eqb _ _ c.if1.false)))
 
 returns-2 : tie.Need-returns-2 invariant-loop decreases-loop
 returns-2 c =
     let l = c.before.loop in
-    whole (handIn c.before.before.args.memory.now) (λ j p. l.invariant.1 j (omega (arith, c.loop-test.false)))
+    whole (hand_in c.before.before.args.memory.now) (λ j p. l.invariant.1 j (omega (arith, c.loop-test.false)))
 
 pub is-whole-spec : {M : Type 1} → statement M
 is-whole-spec =

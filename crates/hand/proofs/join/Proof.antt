@@ -3,20 +3,20 @@ use Prim.Native.Nat.{ℕ, ◌+◌, ◌-◌}
 use mathlib.Core.List.{List}
 use mathlib.Core.Path.{◌≡◌, ap, ap₂, ◌∙◌}
 use lib.ListN.{set}
-use Rattle.telegram.specs.Tables.{firstPacket, firstSlot}
-use Rattle.telegram.specs.Telegrams.{packetIn}
-use Rattle.memory.specs.Memory.{heldFrom}
-use Rattle.hand.specs.Lent.{fourIn, joinedIn}
+use Rattle.telegram.specs.Tables.{first_packet, first_slot}
+use Rattle.telegram.specs.Telegrams.{packet_in}
+use Rattle.memory.specs.Memory.{held_from}
+use Rattle.hand.specs.Lent.{four_in, joined_in}
 use borrow.Author.Rules.{rules}
 use Rattle.hand.proofs.join.Statement.{statement}
 use Rattle.hand.proofs.join.Tie as tie
 
 -- with the numbers that the code has
-joined_by : (memory telegram : List ℕ) (packet place first : ℕ) → packet ≡ packetIn telegram → place ≡ packet - firstPacket → first ≡ firstSlot packet
-    → fourIn telegram first (set memory (heldFrom + place) 1) 4 ≡ joinedIn memory telegram
-unfolding joinedIn
+joined_by : (memory telegram : List ℕ) (packet place first : ℕ) → packet ≡ packet_in telegram → place ≡ packet - first_packet → first ≡ first_slot packet
+    → four_in telegram first (set memory (held_from + place) 1) 4 ≡ joined_in memory telegram
+unfolding joined_in
 joined_by memory telegram packet place first p k f =
-    ap₂ (λ i so_far. fourIn telegram i so_far 4) (f ∙ ap firstSlot p) (ap (λ n. set memory (heldFrom + n) 1) (k ∙ ap (λ n. n - firstPacket) p))
+    ap₂ (λ i so_far. four_in telegram i so_far 4) (f ∙ ap first_slot p) (ap (λ n. set memory (held_from + n) 1) (k ∙ ap (λ n. n - first_packet) p))
 
 packet-in-requires : tie.Need-packet-in-requires
 packet-in-requires c κs = search rules

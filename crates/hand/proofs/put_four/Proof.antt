@@ -4,15 +4,15 @@ use mathlib.Core.Path.{◌≡◌, refl, ap, ◌∙◌}
 use native.Mathlib.Omega.{arith}
 use Rattle.kit.specs.Loops.{fold}
 use Rattle.kit.proofs.Loops.{fold-turn}
-use Rattle.memory.specs.Memory.{withSlot}
-use Rattle.telegram_reader.specs.Places.{placeSlot}
-use Rattle.hand.specs.Lent.{fourIn}
+use Rattle.memory.specs.Memory.{with_slot}
+use Rattle.telegram_reader.specs.Places.{place_slot}
+use Rattle.hand.specs.Lent.{four_in}
 use borrow.Author.Rules.{rules}
 use Rattle.hand.proofs.put_four.Statement.{statement}
 use Rattle.hand.proofs.put_four.Tie as tie
 
 abbrev invariant-loop : tie.invariant-loop
-invariant-loop memory₀ i telegram k₀ memory k = (k ≤ 4) × (memory ≡ fourIn telegram i memory₀ k)
+invariant-loop memory₀ i telegram k₀ memory k = (k ≤ 4) × (memory ≡ four_in telegram i memory₀ k)
 
 abbrev decreases-loop : tie.decreases-loop
 decreases-loop memory₀ i telegram k₀ memory k = 4 - k
@@ -21,7 +21,7 @@ returns : tie.Need-returns invariant-loop decreases-loop
 returns c = absurd (omega (arith, c.if1.true, c.before.before.requires))
 
 loop-holds : tie.Need-loop-init invariant-loop decreases-loop
-unfolding fourIn fold
+unfolding four_in fold
 loop-holds c = (search rules, refl)
 
 add-put-slot : tie.Need-overflow-add-put-slot invariant-loop decreases-loop
@@ -40,14 +40,14 @@ loop-less : tie.Need-loop-smaller invariant-loop decreases-loop
 loop-less c = search rules
 
 loop-again : tie.Need-loop-preserved invariant-loop decreases-loop
-unfolding fourIn
+unfolding four_in
 loop-again c =
     let l = c.before.before.before.before.loop in
     let a = c.before.before.before.before.before.before.before.args in
     let slot = c.before.place-slot.ensures in (
       search rules,
-      fold-turn (λ k so_far. withSlot so_far (a.i + k) (placeSlot a.telegram.now k)) a.memory.now l.memory _ l.k l.invariant.1
-          (c.put-slot.ensures ∙ ap (withSlot l.memory (a.i + l.k)) slot),
+      fold-turn (λ k so_far. with_slot so_far (a.i + k) (place_slot a.telegram.now k)) a.memory.now l.memory _ l.k l.invariant.1
+          (c.put-slot.ensures ∙ ap (with_slot l.memory (a.i + l.k)) slot),
     )
 
 returns-2 : tie.Need-returns-2 invariant-loop decreases-loop
@@ -56,7 +56,7 @@ returns-2 c =
     let a = c.before.before.before.before.args in
     let past : 4 ≤ l.k = search rules in
     let all : l.k ≡ 4 = omega (arith, l.invariant.0, past) in
-    l.invariant.1 ∙ ap (fourIn a.telegram.now a.i a.memory.now) all
+    l.invariant.1 ∙ ap (four_in a.telegram.now a.i a.memory.now) all
 
 pub put-four-spec : {M : Type 1} → statement M
 put-four-spec =

@@ -9,13 +9,13 @@ use Rattle.kit.specs.Put.{Put}
 use Rattle.kit.proofs.Maps.{map_at}
 use Rattle.kit.proofs.Put.{put_next, put_all}
 use Rattle.telegram.specs.Tables.{packets}
-use Rattle.memory.specs.Memory.{heldFrom, flagByte}
+use Rattle.memory.specs.Memory.{held_from, flag_byte}
 use borrow.Author.Rules.{rules}
 use Rattle.hand.proofs.put_front.Statement.{statement}
 use Rattle.hand.proofs.put_front.Tie as tie
 
 abbrev invariant-loop : tie.invariant-loop
-invariant-loop memory₀ step held k₀ memory k = (k ≤ packets) × Put memory₀ heldFrom (take k (map flagByte held)) memory (heldFrom + k)
+invariant-loop memory₀ step held k₀ memory k = (k ≤ packets) × Put memory₀ held_from (take k (map flag_byte held)) memory (held_from + k)
 
 abbrev decreases-loop : tie.decreases-loop
 decreases-loop memory₀ step held k₀ memory k = packets - k
@@ -61,7 +61,7 @@ loop-again c =
     let l = c.before.loop in
     let held = c.before.before.args.t3 in
     let all : length held ≡ packets = search rules in
-    (search rules, put_next (map flagByte held) heldFrom l.k (omega (arith, all, length-map held flagByte)) (sym (map_at flagByte held l.k false 0 (omega (arith, all)))) l.invariant.1)
+    (search rules, put_next (map flag_byte held) held_from l.k (omega (arith, all, length-map held flag_byte)) (sym (map_at flag_byte held l.k false 0 (omega (arith, all)))) l.invariant.1)
 
 returns : tie.Need-returns invariant-loop decreases-loop
 returns c =
@@ -69,7 +69,7 @@ returns c =
     let held = c.before.before.args.t3 in
     let all : length held ≡ packets = search rules in
     let past : packets ≤ l.k = search rules in
-    put_all (map flagByte held) l.k (omega (arith, length-map held flagByte)) l.invariant.1
+    put_all (map flag_byte held) l.k (omega (arith, length-map held flag_byte)) l.invariant.1
 
 pub put-front-spec : {M : Type 1} → statement M
 put-front-spec =

@@ -1,5 +1,5 @@
 -- `step_of`: the word that stands there.
-use Rattle.hand.specs.Lent.{handIn}
+use Rattle.hand.specs.Lent.{hand_in}
 use borrow.Author.Rules.{rules}
 use Rattle.hand.proofs.step_of.Statement.{statement}
 use Rattle.hand.proofs.step_of.Tie as tie
@@ -17,7 +17,7 @@ word-requires : tie.Need-word-requires
 word-requires c κs = search rules
 
 returns : tie.Need-returns
-unfolding handIn
+unfolding hand_in
 returns c = c.word.ensures
 
 pub step-of-spec : {M : Type 1} → statement M

@@ -7,25 +7,25 @@ use borrow.Author.Rules.{part_to_end}
 use native.Mathlib.Omega.{arith}
 use borrow.Author.Rules.{rules}
 use Rattle.kit.proofs.Put.{poured-length}
-use Rattle.frames.specs.Frames.{noBare}
-use Rattle.frames.proofs.Splitting.{size-bounds}
-use Rattle.frames.proofs.Pouring.{Pouring, pouring-start, pouring-more, pouring-end, pouring-last, pouring-as, pouring-length}
-use Rattle.listener.specs.Lent.{listenerIn}
+use Rattle.frames.specs.Frames.{no_bare}
+use Rattle.frames.proofs.Splitting.{size_bounds}
+use Rattle.frames.proofs.Pouring.{Pouring, pouring_start, pouring_more, pouring_end, pouring_last, pouring_as, pouring_length}
+use Rattle.listener.specs.Lent.{listener_in}
 use Rattle.listener.proofs.Fresh.{zeros-fresh}
-use Rattle.hearing_runs.specs.Runs.{shortTelegramLine, linesHeardBy, linesHeard}
+use Rattle.hearing_runs.specs.Runs.{short_telegram_line, lines_heard_by, lines_heard}
 use Rattle.hearing_runs.proofs.Lines.{lines_more, lines-short, lines_end}
 use Rattle.hearing_runs.proofs.hear.Statement.{statement}
 use Rattle.hearing_runs.proofs.hear.Tie as tie
 
 abbrev invariant-loop : tie.invariant-loop
-invariant-loop input lines₀ memory₀ rest₀ at₀ t7 lines memory rest at = Pouring lines₀ (linesHeard input) lines at (linesHeardBy (listenerIn memory) rest)
+invariant-loop input lines₀ memory₀ rest₀ at₀ t7 lines memory rest at = Pouring lines₀ (lines_heard input) lines at (lines_heard_by (listener_in memory) rest)
 
 abbrev decreases-loop : tie.decreases-loop
 decreases-loop input lines₀ memory₀ rest₀ at₀ t7 lines memory rest at = length rest
 
 loop-holds : tie.Need-loop-init invariant-loop decreases-loop
-unfolding linesHeard
-loop-holds c = pouring-as (ap (λ l. linesHeardBy l c.before.before.args.input.now) (sym zeros-fresh)) pouring-start
+unfolding lines_heard
+loop-holds c = pouring_as (ap (λ l. lines_heard_by l c.before.before.args.input.now) (sym zeros-fresh)) pouring_start
 
 call-size-requires : tie.Need-call-size-requires invariant-loop decreases-loop
 call-size-requires c κs = search rules
@@ -37,33 +37,33 @@ put-words-requires : tie.Need-put-words-requires invariant-loop decreases-loop
 put-words-requires c κs = search rules
 
 same_length : tie.Need-same-length invariant-loop decreases-loop
-same_length c = poured-length c.before.before.put-words.ensures ∙ pouring-length c.before.before.before.before.before.before.before.before.loop.invariant
+same_length c = poured-length c.before.before.put-words.ensures ∙ pouring_length c.before.before.before.before.before.before.before.before.loop.invariant
 
 returns : tie.Need-returns invariant-loop decreases-loop
-unfolding shortTelegramLine
+unfolding short_telegram_line
 returns c =
     let l = c.before.before.before.before.before.before.before.before.loop in
     let size = c.before.before.before.before.before.before.call-size in
     let none = c.before.before.before.before.before.if1.true in
-    pouring-end (pouring-as (lines-short (listenerIn l.memory) l.rest.now size.result size.ensures none (search rules)) l.invariant) c.before.before.put-words.ensures
+    pouring_end (pouring_as (lines-short (listener_in l.memory) l.rest.now size.result size.ensures none (search rules)) l.invariant) c.before.before.put-words.ensures
 
 sub-hear-next : tie.Need-overflow-sub-hear-next invariant-loop decreases-loop
-sub-hear-next c = omega (arith, size-bounds noBare c.before.before.before.before.loop.rest.now c.before.before.call-size.result c.before.before.call-size.ensures (search rules))
+sub-hear-next c = omega (arith, size_bounds no_bare c.before.before.before.before.loop.rest.now c.before.before.call-size.result c.before.before.call-size.ensures (search rules))
 
 part-hear-next-start : tie.Need-slice-bounds-hear-next-start invariant-loop decreases-loop
-part-hear-next-start c = omega (arith, size-bounds noBare c.before.before.before.before.loop.rest.now c.before.before.call-size.result c.before.before.call-size.ensures (search rules))
+part-hear-next-start c = omega (arith, size_bounds no_bare c.before.before.before.before.loop.rest.now c.before.before.call-size.result c.before.before.call-size.ensures (search rules))
 
 part-hear-next-end : tie.Need-slice-bounds-hear-next-end invariant-loop decreases-loop
-part-hear-next-end c = omega (arith, size-bounds noBare c.before.before.before.before.loop.rest.now c.before.before.call-size.result c.before.before.call-size.ensures (search rules))
+part-hear-next-end c = omega (arith, size_bounds no_bare c.before.before.before.before.loop.rest.now c.before.before.call-size.result c.before.before.call-size.ensures (search rules))
 
 hear-next-requires : tie.Need-hear-next-requires invariant-loop decreases-loop
 hear-next-requires c κs = search rules
 
 sub-rest : tie.Need-overflow-sub-rest invariant-loop decreases-loop
-sub-rest c = omega (arith, size-bounds noBare c.before.before.before.before.before.before.before.before.before.loop.rest.now c.before.before.before.before.before.before.before.call-size.result c.before.before.before.before.before.before.before.call-size.ensures (search rules))
+sub-rest c = omega (arith, size_bounds no_bare c.before.before.before.before.before.before.before.before.before.loop.rest.now c.before.before.before.before.before.before.before.call-size.result c.before.before.before.before.before.before.before.call-size.ensures (search rules))
 
 part-rest-start : tie.Need-slice-bounds-rest-start invariant-loop decreases-loop
-part-rest-start c = omega (arith, size-bounds noBare c.before.before.before.before.before.before.before.before.before.loop.rest.now c.before.before.before.before.before.before.before.call-size.result c.before.before.before.before.before.before.before.call-size.ensures (search rules))
+part-rest-start c = omega (arith, size_bounds no_bare c.before.before.before.before.before.before.before.before.before.loop.rest.now c.before.before.before.before.before.before.before.call-size.result c.before.before.before.before.before.before.before.call-size.ensures (search rules))
 
 part-rest-end : tie.Need-slice-bounds-rest-end invariant-loop decreases-loop
 part-rest-end c = search rules
@@ -77,16 +77,16 @@ loop-again c =
     let size = c.before.before.before.before.before.before.before.before.call-size in
     let heard = c.before.before.before.hear-next.ensures in
     let rest : List ℕ = l.rest.now in
-    pouring-as (ap₂ linesHeardBy (sym heard.0) (sym (part_to_end rest size.result)))
-    (pouring-more (pouring-as (lines_more (listenerIn l.memory) rest size.result size.ensures (search rules)) l.invariant) heard.1)
+    pouring_as (ap₂ lines_heard_by (sym heard.0) (sym (part_to_end rest size.result)))
+    (pouring_more (pouring_as (lines_more (listener_in l.memory) rest size.result size.ensures (search rules)) l.invariant) heard.1)
 
 same-length-2 : tie.Need-same-length-2 invariant-loop decreases-loop
-same-length-2 c = pouring-length c.before.loop.invariant
+same-length-2 c = pouring_length c.before.loop.invariant
 
 returns-2 : tie.Need-returns-2 invariant-loop decreases-loop
 returns-2 c =
     let l = c.before.loop in
-    pouring-last (pouring-as (lines_end (listenerIn l.memory) l.rest.now (search rules)) l.invariant)
+    pouring_last (pouring_as (lines_end (listener_in l.memory) l.rest.now (search rules)) l.invariant)
 
 pub hear-spec : {M : Type 1} → statement M
 hear-spec =

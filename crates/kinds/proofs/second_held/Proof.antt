@@ -1,7 +1,7 @@
 -- `second_held`: each answer by what `considered` and `unfitted` answered.
 use mathlib.Core.Path.{sym, ◌∙◌}
 use borrow.Author.Rules.{rules}
-use Rattle.kinds.specs.Words.{secondHeld}
+use Rattle.kinds.specs.Words.{second_held}
 use Rattle.kinds.proofs.second_held.Statement.{statement}
 use Rattle.kinds.proofs.second_held.Tie as tie
 
@@ -18,15 +18,15 @@ sub-result : tie.Need-overflow-sub-result
 sub-result c = search rules
 
 returns : tie.Need-returns
-unfolding secondHeld
+unfolding second_held
 returns c = simp (sym c.before.before.before.considered.ensures ∙ c.before.before.if1.true, sym c.before.unfitted.ensures ∙ c.if2.true)
 
 returns-2 : tie.Need-returns-2
-unfolding secondHeld
+unfolding second_held
 returns-2 c = simp (sym c.before.before.before.considered.ensures ∙ c.before.before.if1.true, sym c.before.unfitted.ensures ∙ c.if2.false)
 
 returns-3 : tie.Need-returns-3
-unfolding secondHeld
+unfolding second_held
 returns-3 c = simp (sym c.before.considered.ensures ∙ c.if1.false)
 
 pub second-held-spec : {M : Type 1} → statement M

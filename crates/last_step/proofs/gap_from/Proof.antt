@@ -1,7 +1,7 @@
 -- `gap_from`: by the variant that the `match` found.
 use mathlib.Core.Path.{sym, ap, ◌∙◌}
 use borrow.Author.Rules.{rules}
-use Rattle.last_step.specs.LastSteps.{gapFrom}
+use Rattle.last_step.specs.LastSteps.{gap_from}
 use Rattle.last_step.proofs.gap_from.Statement.{statement}
 use Rattle.last_step.proofs.gap_from.Tie as tie
 
@@ -15,12 +15,12 @@ gap-requires : tie.Need-gap-requires
 gap-requires c κs = search rules
 
 returns : tie.Need-returns
-returns c = sym (ap (λ l. gapFrom l c.before.before.args.step) c.enum_told.given.1)
+returns c = sym (ap (λ l. gap_from l c.before.before.args.step) c.enum_told.given.1)
 
 returns-2 : tie.Need-returns-2
 returns-2 c =
     let start = c.before.before.before.before in
-    c.gap.ensures ∙ sym (ap (λ l. gapFrom l start.args.step) c.before.before.last.given.1)
+    c.gap.ensures ∙ sym (ap (λ l. gap_from l start.args.step) c.before.before.last.given.1)
 
 pub gap-from-spec : {M : Type 1} → statement M
 gap-from-spec = tie.close (tie.spec enum_told enum-known-last gap-requires returns returns-2)

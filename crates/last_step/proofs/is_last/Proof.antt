@@ -1,7 +1,7 @@
 -- `is_last`: by the variant that the `match` found.
 use mathlib.Core.Path.{sym, ap}
 use borrow.Author.Rules.{rules}
-use Rattle.last_step.specs.LastSteps.{isLast}
+use Rattle.last_step.specs.LastSteps.{is_last}
 use Rattle.last_step.proofs.is_last.Statement.{statement}
 use Rattle.last_step.proofs.is_last.Tie as tie
 
@@ -15,7 +15,7 @@ returns : tie.Need-returns
 returns c = search rules
 
 returns-2 : tie.Need-returns-2
-returns-2 c = sym (ap (λ l. isLast l c.before.before.before.args.step) c.before.last.given.1)
+returns-2 c = sym (ap (λ l. is_last l c.before.before.before.args.step) c.before.last.given.1)
 
 pub is-last-spec : {M : Type 1} → statement M
 is-last-spec = tie.close (tie.spec enum_told enum-known-last returns returns-2)

@@ -3,8 +3,8 @@ use mathlib.Core.List.{[], ◌∷◌}
 use mathlib.Core.Path.{sym, ap, ◌∙◌}
 use lib.Seq.{sets}
 use Rattle.kit.proofs.Stores.{stored-sets}
-use Rattle.memory.specs.Memory.{lastFrom}
-use Rattle.last_step.specs.Lent.{lastBytes, with_last}
+use Rattle.memory.specs.Memory.{last_from}
+use Rattle.last_step.specs.Lent.{last_bytes, with_last}
 use borrow.Author.Rules.{rules}
 use Rattle.last_step.proofs.put_last.Statement.{statement}
 use Rattle.last_step.proofs.put_last.Tie as tie
@@ -36,13 +36,13 @@ take-step-requires c κs = search rules
 returns : tie.Need-returns
 returns c =
     let a = c.before.before.args in
-    stored-sets a.memory.now lastFrom 0 (0 ∷ 0 ∷ []) ∙ sym (ap (λ l. sets a.memory.now lastFrom (lastBytes l)) c.enum_told.given.1)
+    stored-sets a.memory.now last_from 0 (0 ∷ 0 ∷ []) ∙ sym (ap (λ l. sets a.memory.now last_from (last_bytes l)) c.enum_told.given.1)
 
 returns-2 : tie.Need-returns-2
 unfolding with_last
 returns-2 c =
     let a = c.before.before.before.before.before.args in
-    c.take_step.ensures ∙ sym (ap (λ l. sets a.memory.now lastFrom (lastBytes l)) c.before.before.before.last.given.1)
+    c.take_step.ensures ∙ sym (ap (λ l. sets a.memory.now last_from (last_bytes l)) c.before.before.before.last.given.1)
 
 pub put-last-spec : {M : Type 1} → statement M
 put-last-spec =

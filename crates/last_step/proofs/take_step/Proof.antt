@@ -2,7 +2,7 @@
 use Prim.Native.Nat.{◌/◌, ◌%◌}
 use mathlib.Core.List.{[], ◌∷◌}
 use Rattle.kit.proofs.Stores.{stored-sets}
-use Rattle.memory.specs.Memory.{lastFrom}
+use Rattle.memory.specs.Memory.{last_from}
 use Rattle.last_step.specs.Lent.{with_last}
 use borrow.Author.Rules.{rules}
 use Rattle.last_step.proofs.take_step.Statement.{statement}
@@ -31,7 +31,7 @@ element-write-memory-3 c = search rules
 
 returns : tie.Need-returns
 unfolding with_last
-returns c = let a = c.args in stored-sets a.memory.now lastFrom 1 (a.step / 256 ∷ a.step % 256 ∷ [])
+returns c = let a = c.args in stored-sets a.memory.now last_from 1 (a.step / 256 ∷ a.step % 256 ∷ [])
 
 pub take-step-spec : {M : Type 1} → statement M
 take-step-spec =

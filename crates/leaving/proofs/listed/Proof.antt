@@ -4,14 +4,14 @@ use mathlib.Core.List.{List}
 use mathlib.Core.Path.{◌≡◌, sym, ap, ◌∙◌}
 use native.Mathlib.Omega.{arith}
 use borrow.Author.Rules.{rules}
-use Rattle.order_list.specs.Lists.{listed_at, numbersOf, foundAt}
+use Rattle.order_list.specs.Lists.{listed_at, numbers_of, found_at}
 use Rattle.order_list.proofs.Found.{found-listed, listed_in, listed-past}
 use Rattle.leaving.proofs.listed.Statement.{statement}
 use Rattle.leaving.proofs.listed.Tie as tie
 
-module _ (numbers list : List ℕ) (n o at : ℕ) (same : numbers ≡ numbersOf list) (found : at ≡ foundAt numbers o) where
+module _ (numbers list : List ℕ) (n o at : ℕ) (same : numbers ≡ numbers_of list) (found : at ≡ found_at numbers o) where
   there : at ≡ listed_at list 20 o
-  there = found ∙ (ap (λ (l : List ℕ). foundAt l o) same ∙ found-listed list o)
+  there = found ∙ (ap (λ (l : List ℕ). found_at l o) same ∙ found-listed list o)
 
   late : n ≤ at → n ≡ listed_at list n o
   late p = sym (listed-past list o 20 n (omega (arith, there)))

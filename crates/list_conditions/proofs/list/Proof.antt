@@ -4,24 +4,24 @@ use mathlib.Core.Path.{◌≡◌, subst⁻¹}
 use mathlib.Core.Bool.{Bool, true, false, cond}
 use mathlib.Core.List.{List, []}
 use lib.ListN.{length}
-use Rattle.lister.specs.Pieces.{MadeByPieces, madeBegun, takenPiece}
+use Rattle.lister.specs.Pieces.{MadeByPieces, made_begun, taken_piece}
 use Rattle.lister.specs.declared.Lister.{Lister}
-use Rattle.listing_room.specs.Rooms.{linesRoom}
+use Rattle.listing_room.specs.Rooms.{lines_room}
 use Rattle.summary.specs.Rooms.{Countable}
-use Rattle.summary.specs.Tallies.{countedPiece}
+use Rattle.summary.specs.Tallies.{counted_piece}
 use Rattle.summary.specs.declared.Tally.{Tally}
-use Rattle.summary.proofs.Room.{tally-fits, piece-fits}
+use Rattle.summary.proofs.Room.{tally-fits, piece_fits}
 use borrow.Author.Rules.{rules}
 use Rattle.list_conditions.proofs.list.Statement.{statement}
 use Rattle.list_conditions.proofs.list.Tie as tie
 
-either-fits : (summed : Bool) (tally : Tally) → Countable tally → (lister : Lister) (piece : List ℕ) → Countable (cond summed (countedPiece tally lister piece) tally)
-either-fits true tally fits lister piece = piece-fits tally fits lister piece
+either-fits : (summed : Bool) (tally : Tally) → Countable tally → (lister : Lister) (piece : List ℕ) → Countable (cond summed (counted_piece tally lister piece) tally)
+either-fits true tally fits lister piece = piece_fits tally fits lister piece
 either-fits false tally fits lister piece = fits
 
 abbrev invariant-loop : tie.invariant-loop
 invariant-loop summed source name lister₀ tally₀ progress₀ out₀ pieces₀ lister tally progress out pieces =
-    MadeByPieces lister × Countable tally × (length out ≡ linesRoom)
+    MadeByPieces lister × Countable tally × (length out ≡ lines_room)
 
 abbrev decreases-loop : tie.decreases-loop
 decreases-loop summed source name lister₀ tally₀ progress₀ out₀ pieces₀ lister tally progress out pieces =
@@ -40,7 +40,7 @@ none-requires : tie.Need-none-requires invariant-loop decreases-loop
 none-requires c κs = search rules
 
 loop-holds : tie.Need-loop-init invariant-loop decreases-loop
-loop-holds c = (subst⁻¹ MadeByPieces c.before.begun.ensures madeBegun, subst⁻¹ Countable c.none.ensures (tally-fits []), search rules)
+loop-holds c = (subst⁻¹ MadeByPieces c.before.begun.ensures made_begun, subst⁻¹ Countable c.none.ensures (tally-fits []), search rules)
 
 add-pieces : tie.Need-overflow-add-pieces invariant-loop decreases-loop
 add-pieces c = search rules
@@ -85,10 +85,10 @@ end-progress-requires : tie.Need-end-progress-requires invariant-loop decreases-
 end-progress-requires c κs = search rules
 
 show-end-requires : tie.Need-show-end-requires invariant-loop decreases-loop
-show-end-requires c κs = subst⁻¹ MadeByPieces c.before.before.before.before.before.before.before.show-piece.ensures (takenPiece c.before.before.before.before.before.before.before.before.before.before.before.before.before.before.before.before.before.loop.invariant.0 _)
+show-end-requires c κs = subst⁻¹ MadeByPieces c.before.before.before.before.before.before.before.show-piece.ensures (taken_piece c.before.before.before.before.before.before.before.before.before.before.before.before.before.before.before.before.before.loop.invariant.0 _)
 
 show-summary-requires : tie.Need-show-summary-requires invariant-loop decreases-loop
-show-summary-requires c κs = (subst⁻¹ MadeByPieces c.before.before.before.before.before.before.before.before.before.before.show-piece.ensures (takenPiece c.before.before.before.before.before.before.before.before.before.before.before.before.before.before.before.before.before.before.before.before.loop.invariant.0 _), subst⁻¹ Countable c.before.before.before.before.before.before.before.before.before.before.before.before.before.count-piece.ensures (either-fits c.before.before.before.before.before.before.before.before.before.before.before.before.before.before.before.before.before.before.before.before.before.before.before.before.before.before.args.summed c.before.before.before.before.before.before.before.before.before.before.before.before.before.before.before.before.before.before.before.before.loop.tally c.before.before.before.before.before.before.before.before.before.before.before.before.before.before.before.before.before.before.before.before.loop.invariant.1 c.before.before.before.before.before.before.before.before.before.before.before.before.before.before.before.before.before.before.before.before.loop.lister _))
+show-summary-requires c κs = (subst⁻¹ MadeByPieces c.before.before.before.before.before.before.before.before.before.before.show-piece.ensures (taken_piece c.before.before.before.before.before.before.before.before.before.before.before.before.before.before.before.before.before.before.before.before.loop.invariant.0 _), subst⁻¹ Countable c.before.before.before.before.before.before.before.before.before.before.before.before.before.count-piece.ensures (either-fits c.before.before.before.before.before.before.before.before.before.before.before.before.before.before.before.before.before.before.before.before.before.before.before.before.before.before.args.summed c.before.before.before.before.before.before.before.before.before.before.before.before.before.before.before.before.before.before.before.before.loop.tally c.before.before.before.before.before.before.before.before.before.before.before.before.before.before.before.before.before.before.before.before.loop.invariant.1 c.before.before.before.before.before.before.before.before.before.before.before.before.before.before.before.before.before.before.before.before.loop.lister _))
 
 returns-3 : tie.Need-returns-3 invariant-loop decreases-loop
 returns-3 c = search rules
@@ -103,7 +103,7 @@ loop-less : tie.Need-loop-smaller invariant-loop decreases-loop
 loop-less c = search rules
 
 loop-again : tie.Need-loop-preserved invariant-loop decreases-loop
-loop-again c = (subst⁻¹ MadeByPieces c.before.before.before.before.before.before.show-piece.ensures (takenPiece c.before.before.before.before.before.before.before.before.before.before.before.before.before.before.before.before.loop.invariant.0 _), subst⁻¹ Countable c.before.before.before.before.before.before.before.before.before.count-piece.ensures (either-fits c.before.before.before.before.before.before.before.before.before.before.before.before.before.before.before.before.before.before.before.before.before.before.args.summed c.before.before.before.before.before.before.before.before.before.before.before.before.before.before.before.before.loop.tally c.before.before.before.before.before.before.before.before.before.before.before.before.before.before.before.before.loop.invariant.1 c.before.before.before.before.before.before.before.before.before.before.before.before.before.before.before.before.loop.lister _), search rules)
+loop-again c = (subst⁻¹ MadeByPieces c.before.before.before.before.before.before.show-piece.ensures (taken_piece c.before.before.before.before.before.before.before.before.before.before.before.before.before.before.before.before.loop.invariant.0 _), subst⁻¹ Countable c.before.before.before.before.before.before.before.before.before.count-piece.ensures (either-fits c.before.before.before.before.before.before.before.before.before.before.before.before.before.before.before.before.before.before.before.before.before.before.args.summed c.before.before.before.before.before.before.before.before.before.before.before.before.before.before.before.before.loop.tally c.before.before.before.before.before.before.before.before.before.before.before.before.before.before.before.before.loop.invariant.1 c.before.before.before.before.before.before.before.before.before.before.before.before.before.before.before.before.loop.lister _), search rules)
 
 returns-6 : tie.Need-returns-6 invariant-loop decreases-loop
 returns-6 c = search rules

@@ -1,6 +1,6 @@
 -- `show_header`: the header has room, so that the place past it counts bytes of the buffer.
 use native.Mathlib.Omega.{arith}
-use Rattle.listing_room.proofs.Room.{header-room, put-counts}
+use Rattle.listing_room.proofs.Room.{header_room_lem, put_counts_lem}
 use borrow.Author.Rules.{rules}
 use Rattle.list_conditions.proofs.show_header.Statement.{statement}
 use Rattle.list_conditions.proofs.show_header.Tie as tie
@@ -12,10 +12,10 @@ put-header-requires : tie.Need-put-header-requires
 put-header-requires c κs = search rules
 
 array-share-prefix-out : tie.Need-array-share-prefix-out
-array-share-prefix-out c = omega (arith, header-room, c.before.put-header.ensures.past)
+array-share-prefix-out c = omega (arith, header_room_lem, c.before.put-header.ensures.past)
 
 slice-aggregate-write : tie.Need-slice-aggregate-write
-slice-aggregate-write c = put-counts header-room c.before.before.put-header.ensures
+slice-aggregate-write c = put_counts_lem header_room_lem c.before.before.put-header.ensures
 
 write-requires : tie.Need-write-requires
 write-requires c κs = search rules

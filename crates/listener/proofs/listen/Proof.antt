@@ -3,15 +3,15 @@ use Prim.Native.Nat.{◌≤◌}
 use mathlib.Core.Bool.{true, false}
 use mathlib.Core.Path.{◌≡◌, refl, sym, ap, ap₂, subst, ◌∙◌}
 use lib.ListN.{length}
-use Rattle.telegram.specs.Telegrams.{packetIn, stepIn}
+use Rattle.telegram.specs.Telegrams.{packet_in, step_in}
 use Rattle.telegram.proofs.Rows.{read_length}
-use Rattle.memory.specs.Memory.{memorySize}
-use Rattle.hand.specs.Lent.{handIn}
-use Rattle.hand.specs.Sets.{setFor, is_held}
-use Rattle.last_step.specs.LastSteps.{isLast}
-use Rattle.last_step.specs.Lent.{lastIn}
-use Rattle.listener.specs.Answers.{toldOf}
-use Rattle.listener.specs.Lent.{memoryFor}
+use Rattle.memory.specs.Memory.{memory_size}
+use Rattle.hand.specs.Lent.{hand_in}
+use Rattle.hand.specs.Sets.{set_for, is_held}
+use Rattle.last_step.specs.LastSteps.{is_last}
+use Rattle.last_step.specs.Lent.{last_in}
+use Rattle.listener.specs.Answers.{told_of}
+use Rattle.listener.specs.Lent.{memory_for}
 use Rattle.listener.proofs.Lent.{left-last, left-found, left-joined}
 use borrow.Author.Rules.{rules}
 use Rattle.listener.proofs.listen.Statement.{statement}
@@ -38,9 +38,9 @@ returns c =
     let memory = start.args.memory.now in
     let telegram = start.args.telegram.now in
     let whole : length telegram ≡ 26 = read_length telegram 0 (sym start.requires) refl in
-    let small : packetIn telegram ≤ 7 = subst (λ n. n ≤ 7) packet.packet-in.ensures.0 packet.packet-in.ensures.1 in
-    let later : isLast (lastIn memory) (stepIn telegram) ≡ true =
-    sym (ap₂ isLast last.last-in.ensures step.step_in.ensures) ∙ (sym c.before.is_last.ensures ∙ c.if1.true) in
+    let small : packet_in telegram ≤ 7 = subst (λ n. n ≤ 7) packet.packet-in.ensures.0 packet.packet-in.ensures.1 in
+    let later : is_last (last_in memory) (step_in telegram) ≡ true =
+    sym (ap₂ is_last last.last-in.ensures step.step_in.ensures) ∙ (sym c.before.is_last.ensures ∙ c.if1.true) in
     left-last memory telegram whole small later
 
 find-or-begin-requires : tie.Need-find-or-begin-requires
@@ -57,13 +57,13 @@ returns-2 c =
     let memory = start.args.memory.now in
     let telegram = start.args.telegram.now in
     let whole : length telegram ≡ 26 = read_length telegram 0 (sym start.requires) refl in
-    let small : packetIn telegram ≤ 7 = subst (λ n. n ≤ 7) packet.packet-in.ensures.0 packet.packet-in.ensures.1 in
-    let later : isLast (lastIn memory) (stepIn telegram) ≡ false =
-    sym (ap₂ isLast last.last-in.ensures step.step_in.ensures) ∙ (sym tested.before.is_last.ensures ∙ tested.if1.false) in
-    let held : is_held (setFor (handIn memory) (stepIn telegram)) (packetIn telegram) ≡ true =
-    sym (ap₂ (λ s p. is_held (setFor (handIn memory) s) p) step.step_in.ensures packet.packet-in.ensures.0) ∙ (sym find.find-or-begin.ensures.0 ∙ c.if2.true) in
-    let long : length memory ≡ memorySize = search rules in
-    left-found memory telegram whole small long later _ (find.find-or-begin.ensures.1 ∙ ap (memoryFor memory) step.step_in.ensures) held
+    let small : packet_in telegram ≤ 7 = subst (λ n. n ≤ 7) packet.packet-in.ensures.0 packet.packet-in.ensures.1 in
+    let later : is_last (last_in memory) (step_in telegram) ≡ false =
+    sym (ap₂ is_last last.last-in.ensures step.step_in.ensures) ∙ (sym tested.before.is_last.ensures ∙ tested.if1.false) in
+    let held : is_held (set_for (hand_in memory) (step_in telegram)) (packet_in telegram) ≡ true =
+    sym (ap₂ (λ s p. is_held (set_for (hand_in memory) s) p) step.step_in.ensures packet.packet-in.ensures.0) ∙ (sym find.find-or-begin.ensures.0 ∙ c.if2.true) in
+    let long : length memory ≡ memory_size = search rules in
+    left-found memory telegram whole small long later _ (find.find-or-begin.ensures.1 ∙ ap (memory_for memory) step.step_in.ensures) held
 
 add-requires : tie.Need-add-requires
 add-requires c κs = search rules
@@ -79,14 +79,14 @@ returns-3 c =
     let memory = start.args.memory.now in
     let telegram = start.args.telegram.now in
     let whole : length telegram ≡ 26 = read_length telegram 0 (sym start.requires) refl in
-    let small : packetIn telegram ≤ 7 = subst (λ n. n ≤ 7) packet.packet-in.ensures.0 packet.packet-in.ensures.1 in
-    let later : isLast (lastIn memory) (stepIn telegram) ≡ false =
-    sym (ap₂ isLast last.last-in.ensures step.step_in.ensures) ∙ (sym tested.before.is_last.ensures ∙ tested.if1.false) in
-    let free : is_held (setFor (handIn memory) (stepIn telegram)) (packetIn telegram) ≡ false =
-    sym (ap₂ (λ s p. is_held (setFor (handIn memory) s) p) step.step_in.ensures packet.packet-in.ensures.0) ∙ (sym find.find-or-begin.ensures.0 ∙ c.before.before.if2.false) in
-    let long : length memory ≡ memorySize = search rules in
-    left-joined memory telegram whole small long later _ (find.find-or-begin.ensures.1 ∙ ap (memoryFor memory) step.step_in.ensures) free
-    (record { told = toldOf c.add.result; memory = c.add.new.0 }) c.add.ensures
+    let small : packet_in telegram ≤ 7 = subst (λ n. n ≤ 7) packet.packet-in.ensures.0 packet.packet-in.ensures.1 in
+    let later : is_last (last_in memory) (step_in telegram) ≡ false =
+    sym (ap₂ is_last last.last-in.ensures step.step_in.ensures) ∙ (sym tested.before.is_last.ensures ∙ tested.if1.false) in
+    let free : is_held (set_for (hand_in memory) (step_in telegram)) (packet_in telegram) ≡ false =
+    sym (ap₂ (λ s p. is_held (set_for (hand_in memory) s) p) step.step_in.ensures packet.packet-in.ensures.0) ∙ (sym find.find-or-begin.ensures.0 ∙ c.before.before.if2.false) in
+    let long : length memory ≡ memory_size = search rules in
+    left-joined memory telegram whole small long later _ (find.find-or-begin.ensures.1 ∙ ap (memory_for memory) step.step_in.ensures) free
+    (record { told = told_of c.add.result; memory = c.add.new.0 }) c.add.ensures
 
 pub listen-spec : {M : Type 1} → statement M
 listen-spec =

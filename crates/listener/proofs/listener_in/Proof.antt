@@ -1,5 +1,5 @@
 -- `listener_in`: each part.
-use Rattle.listener.specs.Lent.{listenerIn}
+use Rattle.listener.specs.Lent.{listener_in}
 use borrow.Author.Rules.{rules}
 use Rattle.listener.proofs.listener_in.Statement.{statement}
 use Rattle.listener.proofs.listener_in.Tie as tie
@@ -17,7 +17,7 @@ hand-in-requires : tie.Need-hand-in-requires
 hand-in-requires c κs = search rules
 
 returns : tie.Need-returns
-unfolding listenerIn
+unfolding listener_in
 returns c =
     let last = c.before in
     let marks = last.before in

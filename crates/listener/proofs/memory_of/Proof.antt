@@ -2,9 +2,9 @@
 use mathlib.Core.Path.{sym, ap, ◌∙◌}
 use lib.ListN.{length-map}
 use lib.Seq.{sets}
-use Rattle.memory.specs.Memory.{lastFrom, stepFrom, withMarks}
-use Rattle.last_step.specs.Lent.{lastBytes}
-use Rattle.hand.specs.Lent.{handBytes}
+use Rattle.memory.specs.Memory.{last_from, step_from, with_marks}
+use Rattle.last_step.specs.Lent.{last_bytes}
+use Rattle.hand.specs.Lent.{hand_bytes}
 use Rattle.listener.proofs.Back.{Sized, built}
 use borrow.Author.Rules.{rules}
 use Rattle.listener.proofs.memory_of.Statement.{statement}
@@ -39,8 +39,8 @@ returns c =
       set = sym (length-map listener.hand.slots _) ∙ hand.1.1.0.1.0.1;
     } in
     c.put-hand.ensures
-    ∙ (ap (λ m. sets m stepFrom (handBytes listener.hand))
-    (last.put_last.ensures ∙ ap (λ m. sets m lastFrom (lastBytes listener.last)) (marks.put-marks.ensures ∙ ap (λ m. withMarks m listener.marks) picture.put-picture.ensures))
+    ∙ (ap (λ m. sets m step_from (hand_bytes listener.hand))
+    (last.put_last.ensures ∙ ap (λ m. sets m last_from (last_bytes listener.last)) (marks.put-marks.ensures ∙ ap (λ m. with_marks m listener.marks) picture.put-picture.ensures))
     ∙ built listener sized)
 
 pub memory-of-spec : {M : Type 1} → statement M

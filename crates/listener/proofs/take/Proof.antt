@@ -1,5 +1,5 @@
 -- `take`: what each part gave.
-use Rattle.listener.proofs.Lent.{taken-by}
+use Rattle.listener.proofs.Lent.{taken_by_lem}
 use borrow.Author.Rules.{rules}
 use Rattle.listener.proofs.take.Statement.{statement}
 use Rattle.listener.proofs.take.Tie as tie
@@ -30,7 +30,7 @@ returns c =
     let last = gap.before in
     let step = last.before.before in
     let memory = step.before.before.args.memory.now in
-    taken-by memory _ _ _ _ _ _ step.step_of_lem.ensures last.last-in.ensures gap.gap_from.ensures counted.count_of.ensures marked.marks-of.ensures c.shift.ensures
+    taken_by_lem memory _ _ _ _ _ _ step.step_of_lem.ensures last.last-in.ensures gap.gap_from.ensures counted.count_of.ensures marked.marks-of.ensures c.shift.ensures
 
 pub take_spec : {M : Type 1} → statement M
 take_spec =

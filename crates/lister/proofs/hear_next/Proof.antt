@@ -1,10 +1,10 @@
 -- `hear_next`: the answer, the count and the lines, each by the contract of its function.
 use Prim.Native.Nat.{◌+◌, min}
 use mathlib.Core.Path.{ap, sym, ◌∙◌}
-use Rattle.kit.proofs.Put.{poured-as}
-use Rattle.listener.specs.Lent.{listenerIn}
-use Rattle.listing_tables.specs.Tables.{heardLines, tables_of}
-use Rattle.lister.specs.Pieces.{mostTables}
+use Rattle.kit.proofs.Put.{poured_as}
+use Rattle.listener.specs.Lent.{listener_in}
+use Rattle.listing_tables.specs.Tables.{heard_lines, tables_of}
+use Rattle.lister.specs.Pieces.{most_tables}
 use borrow.Author.Rules.{rules}
 use Rattle.lister.proofs.hear_next.Statement.{statement}
 use Rattle.lister.proofs.hear_next.Tie as tie
@@ -25,7 +25,7 @@ same_length : tie.Need-same-length
 same_length c = search rules
 
 returns : tie.Need-returns
-unfolding heardLines listenerIn
+unfolding heard_lines listener_in
 returns c =
     let put = c.before.before in
     let sum = put.before.before.before in
@@ -35,9 +35,9 @@ returns c =
     let meant = heard.hear-in.ensures.meant in (
       record {
         means = ap (λ h. h.listener) meant;
-        counts = sum.tally.ensures ∙ ap (λ n. min (a.tables + n) mostTables) (one.tables-of.ensures ∙ ap (λ h. tables_of h.told) meant);
+        counts = sum.tally.ensures ∙ ap (λ n. min (a.tables + n) most_tables) (one.tables-of.ensures ∙ ap (λ h. tables_of h.told) meant);
       },
-      poured-as (sym (ap heardLines meant)) put.put-heard.ensures,
+      poured_as (sym (ap heard_lines meant)) put.put-heard.ensures,
       heard.hear-in.ensures,
     )
 

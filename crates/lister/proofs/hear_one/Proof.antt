@@ -2,8 +2,8 @@
 use mathlib.Core.List.{[]}
 use mathlib.Core.Path.{◌≡◌, ap, sym, ◌∙◌}
 use lib.ListN.{length-map}
-use Rattle.kit.proofs.Put.{poured-as}
-use Rattle.listener.specs.Lent.{listenerIn}
+use Rattle.kit.proofs.Put.{poured_as}
+use Rattle.listener.specs.Lent.{listener_in}
 use Rattle.listener.proofs.Back.{Sized, means-back}
 use Rattle.lister.specs.Pieces.{padded}
 use Rattle.lister.proofs.Kept.{state}
@@ -41,10 +41,10 @@ returns c =
       held = sym (length-map listener.hand.held _) ∙ hand.1.0.1.0.1;
       set = sym (length-map listener.hand.slots _) ∙ hand.1.1.0.1.0.1;
     } in
-    let same : listenerIn made.memory-of.result ≡ listener = ap listenerIn made.memory-of.ensures ∙ means-back listener sized in (
+    let same : listener_in made.memory-of.result ≡ listener = ap listener_in made.memory-of.ensures ∙ means-back listener sized in (
       ap (λ l. state l heard.hear-next.result.tables (padded []) 0) c.listener-in.ensures
           ∙ next-heard lister telegram _ _ _ same heard.hear-next.ensures.0,
-      poured-as (next-lines lister telegram _ same) heard.hear-next.ensures.1,
+      poured_as (next-lines lister telegram _ same) heard.hear-next.ensures.1,
     )
 
 pub hear-one-spec : {M : Type 1} → statement M

@@ -1,5 +1,5 @@
 -- `take_rest`: telegrams that lie whole in the piece, and then what is left.
-use Rattle.lister.proofs.Phases.{here, two-parts, whole-begun, whole-even, whole-left}
+use Rattle.lister.proofs.Phases.{here, two_parts, whole-begun, whole_even, whole-left}
 use native.Mathlib.Omega.{arith}
 use borrow.Author.Rules.{rules}
 use Rattle.lister.proofs.take_rest.Statement.{statement}
@@ -22,7 +22,7 @@ take-whole-requires c κs =
     let start = c.before.before.before.before in
     let lister = start.args.lister in
     let piece = start.args.piece.now in
-    (start.requires.0, whole-begun lister piece start.requires.0 start.requires.1, whole-even lister piece start.requires.0 start.requires.1)
+    (start.requires.0, whole-begun lister piece start.requires.0 start.requires.1, whole_even lister piece start.requires.0 start.requires.1)
 
 sub-bite : tie.Need-overflow-sub-bite
 sub-bite c = search rules
@@ -50,7 +50,7 @@ returns c =
     let last = c.before.before in
     let taken = last.before.before.before.before.before.before in
     let start = taken.before.before.before.before.before in
-    two-parts start.args.lister start.args.piece.now _ (omega arith) taken.take_whole.ensures.0 taken.take_whole.ensures.1 last.bite.ensures.0 last.bite.ensures.1
+    two_parts start.args.lister start.args.piece.now _ (omega arith) taken.take_whole.ensures.0 taken.take_whole.ensures.1 last.bite.ensures.0 last.bite.ensures.1
 
 pub take-rest-spec : {M : Type 1} → statement M
 take-rest-spec =

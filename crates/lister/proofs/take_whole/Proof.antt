@@ -8,10 +8,10 @@ use lib.Seq.{take_all}
 use native.Mathlib.Omega.{arith}
 use borrow.Author.Rules.{rules}
 use Rattle.kit.specs.Put.{Poured}
-use Rattle.kit.proofs.Put.{poured-as, poured-here, poured-then, poured-length}
-use Rattle.listener.specs.Lent.{listenerIn}
+use Rattle.kit.proofs.Put.{poured_as, poured-here, poured-then, poured-length}
+use Rattle.listener.specs.Lent.{listener_in}
 use Rattle.listener.proofs.Back.{Sized, means-back}
-use Rattle.lister.specs.Pieces.{take_of, pieceLines}
+use Rattle.lister.specs.Pieces.{take_of, piece_lines}
 use Rattle.lister.specs.declared.Lister.{Lister}
 use Rattle.lister.proofs.Kept.{Kept, state, made_kept, take_none, lines_none}
 use Rattle.lister.proofs.Phases.{here, again, lines-again, none-begun, whole-taken, whole-lines}
@@ -31,8 +31,8 @@ abbrev invariant-loop : tie.invariant-loop
 invariant-loop lister bytes listing₀ at tail memory₀ tables₀ next₀ from₀ listing memory tables next from =
     (from ≤ length bytes)
     × (from ≡ from / 26 * 26)
-    × (state (listenerIn memory) tables lister.tail lister.kept ≡ take_of lister (take from bytes))
-    × Poured listing₀ next₀ (pieceLines lister (take from bytes)) listing next
+    × (state (listener_in memory) tables lister.tail lister.kept ≡ take_of lister (take from bytes))
+    × Poured listing₀ next₀ (piece_lines lister (take from bytes)) listing next
 
 abbrev decreases-loop : tie.decreases-loop
 decreases-loop lister bytes listing₀ at tail memory₀ tables₀ next₀ from₀ listing memory tables next from = length bytes - from
@@ -62,11 +62,11 @@ loop-holds c =
       set = sym (length-map listener.hand.slots _) ∙ hand.1.1.0.1.0.1;
     } in
     let kept = (made_kept start.requires.0).1 in
-    let same : listenerIn made.memory-of.result ≡ listener = ap listenerIn made.memory-of.ensures ∙ means-back listener sized in (
+    let same : listener_in made.memory-of.result ≡ listener = ap listener_in made.memory-of.ensures ∙ means-back listener sized in (
       search rules,
       search rules,
       ap (λ l. state l lister.tables lister.tail lister.kept) same ∙ sym (take_none kept),
-      poured-as (lines_none kept) (poured-here c.before.before.put-words.ensures),
+      poured_as (lines_none kept) (poured-here c.before.before.put-words.ensures),
     )
 
 add-end : tie.Need-overflow-add-end invariant-loop decreases-loop
@@ -96,7 +96,7 @@ loop-again c =
     let bytes = start.args.bytes.now in
     let p : l.from < length bytes = search rules in
     let fits : l.from + 26 ≤ length bytes = room l.from (length bytes) p l.invariant.1 start.requires.2 in
-    let now : Lister = state (listenerIn l.memory) l.tables lister.tail lister.kept in
+    let now : Lister = state (listener_in l.memory) l.tables lister.tail lister.kept in
     let kept : Kept now [] = none-begun (here lister (take l.from bytes) start.requires.0 l.invariant.2) (free lister bytes l.from p start.requires.1) in
     let telegram = take (l.from + 26 - l.from) (drop l.from bytes) in
     let long : length telegram ≡ 26 = omega (arith, length-take (l.from + 26 - l.from) (drop l.from bytes), length-drop l.from bytes) in
@@ -104,7 +104,7 @@ loop-again c =
       fits,
       omega (arith, l.invariant.1),
       again lister bytes forth l.invariant.2 (whole-taken kept telegram long _ _ heard.hear-next.ensures.0),
-      lines-again lister bytes forth l.invariant.2 l.invariant.3 (poured-as (whole-lines kept telegram long) heard.hear-next.ensures.1),
+      lines-again lister bytes forth l.invariant.2 l.invariant.3 (poured_as (whole-lines kept telegram long) heard.hear-next.ensures.1),
     )
 
 listener-in-requires : tie.Need-listener-in-requires invariant-loop decreases-loop
@@ -120,7 +120,7 @@ returns c =
     let lister = start.args.lister in
     let all = take_all l.from start.args.bytes.now (search rules) in (
       ap (λ x. state x l.tables lister.tail lister.kept) c.listener-in.ensures ∙ (l.invariant.2 ∙ ap (take_of lister) all),
-      poured-then c.before.before.before.before.before.before.put-words.ensures (poured-as (ap (pieceLines lister) (sym all)) l.invariant.3),
+      poured-then c.before.before.before.before.before.before.put-words.ensures (poured_as (ap (piece_lines lister) (sym all)) l.invariant.3),
     )
 
 pub take-whole-spec : {M : Type 1} → statement M

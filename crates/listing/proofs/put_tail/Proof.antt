@@ -1,7 +1,7 @@
 -- `put_tail`: a line unless nothing is kept.
 use borrow.Author.Tests.{eq-eqb, ne_eqb}
-use Rattle.kit.proofs.Put.{poured-as}
-use Rattle.listing.specs.Listings.{tailLine}
+use Rattle.kit.proofs.Put.{poured_as}
+use Rattle.listing.specs.Listings.{tail_line}
 use borrow.Author.Rules.{rules}
 use Rattle.listing.proofs.put_tail.Statement.{statement}
 use Rattle.listing.proofs.put_tail.Tie as tie
@@ -16,8 +16,8 @@ same_length : tie.Need-same-length
 same_length c = search rules
 
 returns : tie.Need-returns
-unfolding tailLine
-returns c = poured-as (simp (eq-eqb _ _ c.before.before.before.before.before.if1.true)) c.before.before.put-words.ensures
+unfolding tail_line
+returns c = poured_as (simp (eq-eqb _ _ c.before.before.before.before.before.if1.true)) c.before.before.put-words.ensures
 
 put-refused-requires : tie.Need-put-refused-requires
 put-refused-requires c κs = search rules
@@ -26,8 +26,8 @@ same-length-2 : tie.Need-same-length-2
 same-length-2 c = search rules
 
 returns-2 : tie.Need-returns-2
-unfolding tailLine
-returns-2 c = poured-as (simp (ne_eqb _ _ c.before.before.before.before.if1.false)) c.before.before.Put-refused.ensures
+unfolding tail_line
+returns-2 c = poured_as (simp (ne_eqb _ _ c.before.before.before.before.if1.false)) c.before.before.Put-refused.ensures
 
 pub put-tail-spec : {M : Type 1} → statement M
 put-tail-spec =

@@ -5,10 +5,10 @@ use lib.ListN.{length, take}
 use native.Mathlib.Omega.{arith}
 use Rattle.kit.specs.Bytes.{Bytes}
 use Rattle.kit.proofs.Put.{poured-length}
-use Rattle.lister.specs.Pieces.{mostTables, begunLister, take_of, MadeByPieces, madeBegun, takenPiece}
+use Rattle.lister.specs.Pieces.{most_tables, begun_lister, take_of, MadeByPieces, made_begun, taken_piece}
 use Rattle.lister.proofs.Phases.{again}
-use Rattle.listing_length.specs.Lengths.{piece_size, pieceLinesRoom}
-use Rattle.listing_length.proofs.Counting.{so_far, lister-begun, header-counted, piece-counted, all-counted}
+use Rattle.listing_length.specs.Lengths.{piece_size, piece_lines_room}
+use Rattle.listing_length.proofs.Counting.{so_far, lister-begun, header_counted, piece_counted, all-counted}
 use borrow.Author.Rules.{rules}
 use Rattle.listing_length.proofs.length_of.Statement.{statement}
 use Rattle.listing_length.proofs.length_of.Tie as tie
@@ -16,9 +16,9 @@ use Rattle.listing_length.proofs.length_of.Tie as tie
 abbrev invariant-loop : tie.invariant-loop
 invariant-loop recording out₀ lister₀ bytes₀ from₀ out lister bytes from =
     (from ≤ length recording)
-    × (lister ≡ take_of begunLister (take from recording))
+    × (lister ≡ take_of begun_lister (take from recording))
     × (bytes ≡ so_far recording from)
-    × (length out ≡ pieceLinesRoom)
+    × (length out ≡ piece_lines_room)
 
 abbrev decreases-loop : tie.decreases-loop
 decreases-loop recording out₀ lister₀ bytes₀ from₀ out lister bytes from = length recording - from
@@ -37,7 +37,7 @@ loop-holds c =
     let recording = c.before.before.before.before.before.args.recording.now in (
       search rules,
       c.before.before.before.begun.ensures ∙ lister-begun recording,
-      header-counted recording c.before.put-header.ensures.past,
+      header_counted recording c.before.put-header.ensures.past,
       poured-length c.before.put-header.ensures,
     )
 
@@ -57,7 +57,7 @@ slice-aggregate-count-piece : tie.Need-slice-aggregate-count-piece invariant-loo
 slice-aggregate-count-piece c = search rules
 
 count-piece-requires : tie.Need-count-piece-requires invariant-loop decreases-loop
-count-piece-requires c κs = subst⁻¹ MadeByPieces c.before.before.before.before.loop.invariant.1 (takenPiece madeBegun _)
+count-piece-requires c κs = subst⁻¹ MadeByPieces c.before.before.before.before.loop.invariant.1 (taken_piece made_begun _)
 
 loop-less : tie.Need-loop-smaller invariant-loop decreases-loop
 loop-less c = omega arith
@@ -75,8 +75,8 @@ loop-again c =
     let forth : from ≤ to = omega (arith, ended.end_of_lem.ensures, l.invariant.0) in
     let small : to - from ≤ piece_size = omega (arith, ended.end_of_lem.ensures) in (
       omega (arith, ended.end_of_lem.ensures),
-      again begunLister recording forth l.invariant.1 counted.count-piece.ensures.0,
-      piece-counted recording fits forth small l.invariant.1 l.invariant.2 l.invariant.3 counted.count-piece.ensures.1,
+      again begun_lister recording forth l.invariant.1 counted.count-piece.ensures.0,
+      piece_counted recording fits forth small l.invariant.1 l.invariant.2 l.invariant.3 counted.count-piece.ensures.1,
       counted.count-piece.auto.1.1.0 ∙ l.invariant.3,
     )
 
@@ -95,7 +95,7 @@ returns c =
     let l = finished.before.before.before.loop in
     let start = finished.before.before.before.before.before.before.before.before.before in
     let recording = start.args.recording.now in
-    let counted : length recording ≤ mostTables = search rules in
+    let counted : length recording ≤ most_tables = search rules in
     let past : length recording ≤ l.from = search rules in
     all-counted recording counted past l.invariant.1 l.invariant.2 l.invariant.3 finished.finish.ensures.past c.sum.ensures
 

@@ -1,6 +1,6 @@
 -- `put_end`: the word, then the number.
 use Rattle.kit.proofs.Put.{poured-then}
-use Rattle.listing_lines.specs.Lines.{endLine}
+use Rattle.listing_lines.specs.Lines.{end_line}
 use borrow.Author.Rules.{rules}
 use Rattle.listing_lines.proofs.put_end.Statement.{statement}
 use Rattle.listing_lines.proofs.put_end.Tie as tie
@@ -18,7 +18,7 @@ same_length : tie.Need-same-length
 same_length c = search rules
 
 returns : tie.Need-returns
-unfolding endLine
+unfolding end_line
 returns c = poured-then c.before.before.before.before.before.before.put-words.ensures c.before.before.put-number.ensures
 
 pub put-end-spec : {M : Type 1} → statement M

@@ -1,5 +1,5 @@
 -- `put_header`: the header's own bytes.
-use Rattle.listing_lines.specs.Lines.{headerLine}
+use Rattle.listing_lines.specs.Lines.{header_line}
 use borrow.Author.Rules.{rules}
 use Rattle.listing_lines.proofs.put_header.Statement.{statement}
 use Rattle.listing_lines.proofs.put_header.Tie as tie
@@ -14,7 +14,7 @@ same_length : tie.Need-same-length
 same_length c = search rules
 
 returns : tie.Need-returns
-unfolding headerLine
+unfolding header_line
 returns c = c.before.before.put-words.ensures
 
 pub put-header-spec : {M : Type 1} → statement M

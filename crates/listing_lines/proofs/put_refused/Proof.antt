@@ -1,6 +1,6 @@
 -- `put_refused`: the word, then the number.
 use Rattle.kit.proofs.Put.{poured-then}
-use Rattle.listing_lines.specs.Lines.{refusedLine}
+use Rattle.listing_lines.specs.Lines.{refused_line}
 use borrow.Author.Rules.{rules}
 use Rattle.listing_lines.proofs.put_refused.Statement.{statement}
 use Rattle.listing_lines.proofs.put_refused.Tie as tie
@@ -18,7 +18,7 @@ same_length : tie.Need-same-length
 same_length c = search rules
 
 returns : tie.Need-returns
-unfolding refusedLine
+unfolding refused_line
 returns c = poured-then c.before.before.before.before.before.before.put-words.ensures c.before.before.put-number.ensures
 
 pub put-refused-spec : {M : Type 1} → statement M

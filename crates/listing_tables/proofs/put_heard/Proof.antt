@@ -1,10 +1,10 @@
 -- `put_heard`: a table taken has its line and those of its slots; any other answer what `put_refusal` puts.
 use mathlib.Core.Path.{ap}
-use Rattle.kit.proofs.Put.{poured-as}
-use Rattle.memory.specs.Memory.{pictureIn, marksIn}
-use Rattle.listener.specs.Answers.{toldOf}
+use Rattle.kit.proofs.Put.{poured_as}
+use Rattle.memory.specs.Memory.{picture_in, marks_in}
+use Rattle.listener.specs.Answers.{told_of}
 use Rattle.listener.specs.declared.Answer.{Answer}
-use Rattle.listing_tables.specs.Tables.{answerLines}
+use Rattle.listing_tables.specs.Tables.{answer_lines}
 use Rattle.listing_tables.proofs.Others.{untaken}
 use borrow.Author.Rules.{rules}
 use Rattle.listing_tables.proofs.put_heard.Statement.{statement}
@@ -23,7 +23,7 @@ returns : tie.Need-returns
 returns c =
     let test = c.before.before.before.before in
     let a = test.before.before.args in
-    poured-as ((untaken a.answer test.match.keys2).1 (pictureIn a.memory.now) (marksIn a.memory.now)) c.before.before.put-refusal.ensures
+    poured_as ((untaken a.answer test.match.keys2).1 (picture_in a.memory.now) (marks_in a.memory.now)) c.before.before.put-refusal.ensures
 
 put-table-requires : tie.Need-put-table-requires
 put-table-requires c κs = search rules
@@ -36,7 +36,7 @@ returns-2 c =
     let put = c.before.before in
     let one = put.before.before.before in
     let memory = one.before.before.before.args.memory.now in
-    poured-as (ap (λ (x : Answer). answerLines (toldOf x) (pictureIn memory) (marksIn memory)) one.answer.given.1) put.put-table.ensures
+    poured_as (ap (λ (x : Answer). answer_lines (told_of x) (picture_in memory) (marks_in memory)) one.answer.given.1) put.put-table.ensures
 
 pub put-heard-spec : {M : Type 1} → statement M
 put-heard-spec =

@@ -6,17 +6,17 @@ use native.Mathlib.Omega.{arith}
 use lib.ListN.{length}
 use Rattle.kit.specs.Each.{each}
 use Rattle.page.specs.Pages.{Paged}
-use Rattle.page.proofs.Pages.{paged-none, paged-as, paged-most, paged-each}
-use Rattle.memory.specs.Memory.{pictureIn, marksIn}
-use Rattle.listing_entries.specs.Entries.{entryLine}
-use Rattle.listing_tables.specs.Tables.{entry_at, pictureLines}
+use Rattle.page.proofs.Pages.{paged-none, paged_as, paged-most, paged-each}
+use Rattle.memory.specs.Memory.{picture_in, marks_in}
+use Rattle.listing_entries.specs.Entries.{entry_line}
+use Rattle.listing_tables.specs.Tables.{entry_at, picture_lines}
 use borrow.Author.Rules.{rules}
 use Rattle.listing_tables.proofs.put_picture.Statement.{statement}
 use Rattle.listing_tables.proofs.put_picture.Tie as tie
 
 -- the lines of the slots that stand there
 abbrev lines : List ℕ → ℕ → List ℕ
-lines memory = entry_at (pictureIn memory) (marksIn memory)
+lines memory = entry_at (picture_in memory) (marks_in memory)
 
 abbrev invariant-loop : tie.invariant-loop
 invariant-loop memory page₀ at next₀ i₀ page next i = (i ≤ 20) × (length page ≡ length page₀) × Paged (37 * i) page₀ next₀ (each (lines memory) 0 i) page next
@@ -50,19 +50,19 @@ loop-again c =
     let slot = mark.before in
     let l = slot.before.before in
     let memory = l.before.before.args.memory.now in
-    let line = ap₂ (entryLine l.loop.i) slot.shown-slot.ensures mark.is-marked.ensures in
-    (search rules, search rules, paged-each (lines memory) l.loop.i (omega arith) l.loop.invariant.2 (paged-as (sym line) put.put-entry.ensures))
+    let line = ap₂ (entry_line l.loop.i) slot.shown-slot.ensures mark.is-marked.ensures in
+    (search rules, search rules, paged-each (lines memory) l.loop.i (omega arith) l.loop.invariant.2 (paged_as (sym line) put.put-entry.ensures))
 
 same_length : tie.Need-same-length invariant-loop decreases-loop
 same_length c = search rules
 
 returns : tie.Need-returns invariant-loop decreases-loop
-unfolding pictureLines
+unfolding picture_lines
 returns c =
     let l = c.before in
     let memory = l.before.before.args.memory.now in
     let all : l.loop.i ≡ 20 = search rules in
-    paged-as (ap (each (lines memory) 0) (sym all)) (paged-most (omega arith) l.loop.invariant.2)
+    paged_as (ap (each (lines memory) 0) (sym all)) (paged-most (omega arith) l.loop.invariant.2)
 
 pub put-picture-spec : {M : Type 1} → statement M
 put-picture-spec =

@@ -1,6 +1,6 @@
 -- `is_alike`: the heads agree in their lower three bytes exactly where the slots do.
-use Rattle.marks.specs.Lent.{isAlike}
-use Rattle.marks.proofs.Heads.{heads-alike}
+use Rattle.marks.specs.Lent.{is_alike}
+use Rattle.marks.proofs.Heads.{heads_alike}
 use borrow.Author.Rules.{rules}
 use Rattle.marks.proofs.is_alike.Statement.{statement}
 use Rattle.marks.proofs.is_alike.Tie as tie
@@ -24,8 +24,8 @@ head-at-requires-2 : tie.Need-head-at-requires-2
 head-at-requires-2 c κs = search rules
 
 returns : tie.Need-returns
-unfolding isAlike
-returns c = heads-alike _ _ _ _ c.before.head_at.ensures _ _ _ _ c.head-at2.ensures
+unfolding is_alike
+returns c = heads_alike _ _ _ _ c.before.head_at.ensures _ _ _ _ c.head-at2.ensures
 
 pub is-alike-spec : {M : Type 1} → statement M
 is-alike-spec =

@@ -1,15 +1,15 @@
 -- `look_up`: the loop marks one of the others after another.
 use Prim.Native.Nat.{◌-◌, ◌<◌}
 use native.Mathlib.Omega.{arith}
-use Rattle.condition.specs.Slots.{slotCount}
+use Rattle.condition.specs.Slots.{slot_count}
 use Rattle.marks.specs.Lent.{Sorted, Seen}
-use Rattle.marks.proofs.Sorting.{sorted-next, sorted_all}
+use Rattle.marks.proofs.Sorting.{sorted_next, sorted_all}
 use borrow.Author.Rules.{rules}
 use Rattle.marks.proofs.look_up.Statement.{statement}
 use Rattle.marks.proofs.look_up.Tie as tie
 
 abbrev invariant-loop : tie.invariant-loop
-invariant-loop memory others count marks₀ seen k₀ marks k = Sorted memory slotCount k count others marks × Seen memory slotCount seen
+invariant-loop memory others count marks₀ seen k₀ marks k = Sorted memory slot_count k count others marks × Seen memory slot_count seen
 
 abbrev decreases-loop : tie.decreases-loop
 decreases-loop memory others count marks₀ seen k₀ marks k = count - k
@@ -50,7 +50,7 @@ loop-again c =
     let start = c.before.before.before.before.before.before.before in
     let memory = start.args.memory.now in
     let p : l.k < start.args.count = search rules in
-    (sorted-next memory l.k start.args.count start.args.others.now l.marks l.invariant.0 p _ c.is-there.ensures, l.invariant.1)
+    (sorted_next memory l.k start.args.count start.args.others.now l.marks l.invariant.0 p _ c.is-there.ensures, l.invariant.1)
 
 returns : tie.Need-returns invariant-loop decreases-loop
 returns c =

@@ -2,7 +2,7 @@
 use Prim.Native.Nat.{ℕ, ◌-◌, ◌≤◌}
 use mathlib.Core.Path.{◌≡◌, subst}
 use native.Mathlib.Omega.{arith}
-use Rattle.condition.specs.Slots.{slotCount}
+use Rattle.condition.specs.Slots.{slot_count}
 use Rattle.marks.specs.Lent.{Seen}
 use Rattle.marks.proofs.Seeing.{seen_none, seen_more}
 use borrow.Author.Rules.{rules}
@@ -10,10 +10,10 @@ use Rattle.marks.proofs.see_all.Statement.{statement}
 use Rattle.marks.proofs.see_all.Tie as tie
 
 abbrev invariant-loop : tie.invariant-loop
-invariant-loop memory seen₀ k₀ seen k = (k ≤ slotCount) × Seen memory k seen
+invariant-loop memory seen₀ k₀ seen k = (k ≤ slot_count) × Seen memory k seen
 
 abbrev decreases-loop : tie.decreases-loop
-decreases-loop memory seen₀ k₀ seen k = slotCount - k
+decreases-loop memory seen₀ k₀ seen k = slot_count - k
 
 loop-holds : tie.Need-loop-init invariant-loop decreases-loop
 loop-holds c = (search rules, seen_none c.args.memory.now c.args.seen.now c.requires)
@@ -46,8 +46,8 @@ returns : tie.Need-returns invariant-loop decreases-loop
 returns c =
     let l = c.before.loop in
     let memory = c.before.before.args.memory.now in
-    let past : slotCount ≤ l.k = search rules in
-    let all : l.k ≡ slotCount = omega (arith, l.invariant.0) in
+    let past : slot_count ≤ l.k = search rules in
+    let all : l.k ≡ slot_count = omega (arith, l.invariant.0) in
     subst (λ (n : ℕ). Seen memory n l.seen) all l.invariant.1
 
 pub see-all-spec : {M : Type 1} → statement M

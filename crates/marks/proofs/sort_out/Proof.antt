@@ -2,7 +2,7 @@
 use Prim.Native.Nat.{ℕ, ◌-◌, ◌≤◌}
 use mathlib.Core.Path.{◌≡◌, subst}
 use native.Mathlib.Omega.{arith}
-use Rattle.condition.specs.Slots.{slotCount}
+use Rattle.condition.specs.Slots.{slot_count}
 use Rattle.marks.specs.Lent.{Sorted}
 use Rattle.marks.proofs.Sorting.{sorted_none}
 use borrow.Author.Rules.{rules}
@@ -10,10 +10,10 @@ use Rattle.marks.proofs.sort_out.Statement.{statement}
 use Rattle.marks.proofs.sort_out.Tie as tie
 
 abbrev invariant-loop : tie.invariant-loop
-invariant-loop memory marks₀ others₀ count₀ i₀ marks others count i = (i ≤ slotCount) × Sorted memory i 0 count others marks
+invariant-loop memory marks₀ others₀ count₀ i₀ marks others count i = (i ≤ slot_count) × Sorted memory i 0 count others marks
 
 abbrev decreases-loop : tie.decreases-loop
-decreases-loop memory marks₀ others₀ count₀ i₀ marks others count i = slotCount - i
+decreases-loop memory marks₀ others₀ count₀ i₀ marks others count i = slot_count - i
 
 loop-holds : tie.Need-loop-init invariant-loop decreases-loop
 loop-holds c = (search rules, sorted_none c.args.memory.now c.args.others.now c.args.marks.now c.requires.0 c.requires.1)
@@ -34,8 +34,8 @@ returns : tie.Need-returns invariant-loop decreases-loop
 returns c =
     let l = c.before.loop in
     let memory = c.before.before.args.memory.now in
-    let past : slotCount ≤ l.i = search rules in
-    let all : l.i ≡ slotCount = omega (arith, l.invariant.0) in
+    let past : slot_count ≤ l.i = search rules in
+    let all : l.i ≡ slot_count = omega (arith, l.invariant.0) in
     subst (λ (n : ℕ). Sorted memory n 0 l.count l.others l.marks) all l.invariant.1
 
 pub sort-out-spec : {M : Type 1} → statement M

@@ -7,10 +7,10 @@ use native.Mathlib.Omega.{arith}
 use Rattle.kit.specs.Each.{each}
 use Rattle.kit.specs.Put.{Put}
 use Rattle.kit.proofs.Put.{put-each}
-use Rattle.condition.specs.Slots.{slotCount}
+use Rattle.condition.specs.Slots.{slot_count}
 use Rattle.condition.specs.declared.slots.Slot.{Slot}
-use Rattle.telegram.specs.Tables.{tableSlot}
-use Rattle.memory.specs.Memory.{slotPlace, slotBytes, tableBytes}
+use Rattle.telegram.specs.Tables.{table_slot}
+use Rattle.memory.specs.Memory.{slot_place, slot_bytes, table_bytes}
 use Rattle.memory.proofs.Slots.{slot-length}
 use borrow.Author.Rules.{rules}
 use Rattle.memory.proofs.put_table.Statement.{statement}
@@ -18,13 +18,13 @@ use Rattle.memory.proofs.put_table.Tie as tie
 
 -- the bytes of slot i
 abbrev bytes : List Slot → ℕ → List ℕ
-bytes table i = slotBytes (tableSlot table i)
+bytes table i = slot_bytes (table_slot table i)
 
 abbrev invariant-loop : tie.invariant-loop
-invariant-loop memory₀ from table i₀ memory i = (i ≤ slotCount) × Put memory₀ from (each (bytes table) 0 i) memory (slotPlace from i)
+invariant-loop memory₀ from table i₀ memory i = (i ≤ slot_count) × Put memory₀ from (each (bytes table) 0 i) memory (slot_place from i)
 
 abbrev decreases-loop : tie.decreases-loop
-decreases-loop memory₀ from table i₀ memory i = slotCount - i
+decreases-loop memory₀ from table i₀ memory i = slot_count - i
 
 loop-holds : tie.Need-loop-init invariant-loop decreases-loop
 unfolding each
@@ -56,15 +56,15 @@ loop-again c =
     let l = c.before.before.before.before.loop in
     let a = c.before.before.before.before.before.args in
     let table = a.t3 in
-    (search rules, put-each (bytes table) l.i l.invariant.1 (record { stored = c.put-bytes.ensures; past = omega (arith, slot-length (tableSlot table l.i)) }))
+    (search rules, put-each (bytes table) l.i l.invariant.1 (record { stored = c.put-bytes.ensures; past = omega (arith, slot-length (table_slot table l.i)) }))
 
 returns : tie.Need-returns invariant-loop decreases-loop
-unfolding tableBytes
+unfolding table_bytes
 returns c =
     let l = c.before.loop in
     let a = c.before.before.args in
-    let past : slotCount ≤ l.i = search rules in
-    let all : l.i ≡ slotCount = omega (arith, l.invariant.0, past) in
+    let past : slot_count ≤ l.i = search rules in
+    let all : l.i ≡ slot_count = omega (arith, l.invariant.0, past) in
     l.invariant.1.stored ∙ ap (λ (n : ℕ). sets a.memory.now a.from (each (bytes a.t3) 0 n)) all
 
 pub put-table-spec : {M : Type 1} → statement M

@@ -2,7 +2,7 @@
 use Prim.Native.Nat.{◌+◌}
 use mathlib.Core.Path.{ap, ap₂, ◌∙◌}
 use lib.ListN.{get_or}
-use Rattle.memory.specs.Memory.{bodyFrom, storedSlot}
+use Rattle.memory.specs.Memory.{body_from, stored_slot}
 use borrow.Author.Rules.{rules}
 use Rattle.memory.proofs.slot_at.Statement.{statement}
 use Rattle.memory.proofs.slot_at.Tie as tie
@@ -56,14 +56,14 @@ body-of-requires : tie.Need-body-of-requires
 body-of-requires c κs = search rules
 
 returns : tie.Need-returns
-unfolding storedSlot
+unfolding stored_slot
 returns c =
     let second = c.before.before.before.before in
     let first = second.before.before.before in
     let a = first.before.before.before.args in
     let memory = a.memory.now in
     ap (λ b. record { number = get_or memory a.at 0; body = b })
-    (c.body_of.ensures ∙ ap₂ (bodyFrom (get_or memory (a.at + 1) 0) (get_or memory (a.at + 2) 0)) first.word.ensures second.word2.ensures)
+    (c.body_of.ensures ∙ ap₂ (body_from (get_or memory (a.at + 1) 0) (get_or memory (a.at + 2) 0)) first.word.ensures second.word2.ensures)
 
 pub slot-at-spec : {M : Type 1} → statement M
 slot-at-spec =

@@ -4,18 +4,18 @@ use mathlib.Core.Path.{sym, ◌∙◌}
 use native.Mathlib.Omega.{arith}
 use Rattle.kit.specs.Fill.{Filled}
 use Rattle.kit.proofs.Fill.{filled_none, filled_more, filled-all}
-use Rattle.condition.specs.Slots.{emptySlot, slotCount}
+use Rattle.condition.specs.Slots.{empty_slot, slot_count}
 use Rattle.memory.specs.Memory.{table_at}
-use Rattle.memory.proofs.Slots.{slot-in, length-table}
+use Rattle.memory.proofs.Slots.{slot_in_lem, length-table}
 use borrow.Author.Rules.{rules}
 use Rattle.memory.proofs.table_at.Statement.{statement}
 use Rattle.memory.proofs.table_at.Tie as tie
 
 abbrev invariant-loop : tie.invariant-loop
-invariant-loop memory from table₀ i₀ table i = (i ≤ slotCount) × Filled emptySlot (table_at memory from) i table
+invariant-loop memory from table₀ i₀ table i = (i ≤ slot_count) × Filled empty_slot (table_at memory from) i table
 
 abbrev decreases-loop : tie.decreases-loop
-decreases-loop memory from table₀ i₀ table i = slotCount - i
+decreases-loop memory from table₀ i₀ table i = slot_count - i
 
 empty-requires : tie.Need-empty-requires invariant-loop decreases-loop
 empty-requires c κs = search rules
@@ -49,14 +49,14 @@ loop-again c =
     let l = c.before.before.loop in
     let a = c.before.before.before.before.args in
     let memory = a.memory.now in
-    let p : l.i < slotCount = search rules in
-    (search rules, filled_more (omega (arith, length-table memory a.from)) l.invariant.1 (c.slot_at.ensures ∙ sym (slot-in memory a.from l.i p)))
+    let p : l.i < slot_count = search rules in
+    (search rules, filled_more (omega (arith, length-table memory a.from)) l.invariant.1 (c.slot_at.ensures ∙ sym (slot_in_lem memory a.from l.i p)))
 
 returns : tie.Need-returns invariant-loop decreases-loop
 returns c =
     let l = c.before.loop in
     let a = c.before.before.before.args in
-    let past : slotCount ≤ l.i = search rules in
+    let past : slot_count ≤ l.i = search rules in
     filled-all (omega (arith, length-table a.memory.now a.from)) l.invariant.1
 
 pub table-at-spec : {M : Type 1} → statement M

@@ -7,24 +7,24 @@ use borrow.Author.Rules.{rules}
 use borrow.Author.Tests.{eq-eqb, ne_eqb}
 use lib.Dec.{eqb}
 use Rattle.kit.specs.Loops.{any}
-use Rattle.kit.proofs.Loops.{scan-go, scan-hit, scan-end}
-use Rattle.places.specs.Places.{placeAt}
+use Rattle.kit.proofs.Loops.{scan-go, scan_hit, scan-end}
+use Rattle.places.specs.Places.{place_at}
 use Rattle.places.specs.declared.Place.{Place}
-use Rattle.numbers.specs.Numbers.{hasNumber}
+use Rattle.numbers.specs.Numbers.{has_number}
 use Rattle.numbers.proofs.has_number.Statement.{statement}
 use Rattle.numbers.proofs.has_number.Tie as tie
 
 abbrev has : List Place → ℕ → ℕ → Bool
-has places number i = eqb (placeAt places i).slot.number number
+has places number i = eqb (place_at places i).slot.number number
 
 abbrev invariant-loop : tie.invariant-loop
-invariant-loop number places i₀ i = (i ≤ 20) × (hasNumber places number ≡ any (has places number) i (20 - i))
+invariant-loop number places i₀ i = (i ≤ 20) × (has_number places number ≡ any (has places number) i (20 - i))
 
 abbrev decreases-loop : tie.decreases-loop
 decreases-loop number places i₀ i = 20 - i
 
 loop-holds : tie.Need-loop-init invariant-loop decreases-loop
-unfolding hasNumber
+unfolding has_number
 loop-holds c = search rules
 
 mul-if1 : tie.Need-overflow-mul-if1 invariant-loop decreases-loop
@@ -37,7 +37,7 @@ returns : tie.Need-returns invariant-loop decreases-loop
 returns c =
     let l = c.before.before.loop in
     let a = c.before.before.before.args in
-    sym (l.invariant.1 ∙ scan-hit (has a.t1 a.number) _ _ 20 l.i (search rules) (eq-eqb _ _ c.if1.true))
+    sym (l.invariant.1 ∙ scan_hit (has a.t1 a.number) _ _ 20 l.i (search rules) (eq-eqb _ _ c.if1.true))
 
 add-i : tie.Need-overflow-add-i invariant-loop decreases-loop
 add-i c = search rules

@@ -10,8 +10,8 @@ use lib.Dec.{eqb}
 use lib.ListN.{length-map, length}
 use Rattle.kit.proofs.Cases.{on}
 use Rattle.places.specs.declared.Place.{Place}
-use Rattle.resting.specs.Rests.{isResting}
-use Rattle.numbers.specs.Numbers.{isPermitted, numberAfter, nextNumber}
+use Rattle.resting.specs.Rests.{is_resting}
+use Rattle.numbers.specs.Numbers.{is_permitted, number_after, next_number}
 use Rattle.resting.specs.declared.Ended.{Ended}
 use Rattle.resting.proofs.Rested.{covers-resting}
 use Rattle.numbers.proofs.Search.{others-few, number-first}
@@ -19,38 +19,38 @@ use Rattle.numbers.proofs.next_number.Statement.{statement}
 use Rattle.numbers.proofs.next_number.Tie as tie
 
 abbrev permits : List Place → List Ended → ℕ → ℕ → ℕ → Bool
-permits places ended rest step number = isPermitted (isResting rest step ended) places number
+permits places ended rest step number = is_permitted (is_resting rest step ended) places number
 
 -- none of the k numbers after the last one is permitted
 abbrev Passed : List Place → List Ended → ℕ → ℕ → ℕ → ℕ → Type 0
-Passed places ended last rest step k = (j : ℕ) → j < k → permits places ended rest step (numberAfter last j) ≡ false
+Passed places ended last rest step k = (j : ℕ) → j < k → permits places ended rest step (number_after last j) ≡ false
 
-passed-one : (places : List Place) (ended : List Ended) (last rest step k number : ℕ) (tested : Bool) → number ≡ numberAfter last k
+passed-one : (places : List Place) (ended : List Ended) (last rest step k number : ℕ) (tested : Bool) → number ≡ number_after last k
     → tested ≡ permits places ended rest step number → not tested ≡ true → Passed places ended last rest step k
     → Passed places ended last rest step (k + 1)
 passed-one places ended last rest step k number tested same e left before j p =
     on (eqb k j)
     (λ here.
-    subst (λ (i : ℕ). permits places ended rest step (numberAfter last i) ≡ false) (eqb-true k j here) (sym (rw same at e) ∙ not-true tested left))
+    subst (λ (i : ℕ). permits places ended rest step (number_after last i) ≡ false) (eqb-true k j here) (sym (rw same at e) ∙ not-true tested left))
     (λ other. before j (omega (arith, eqb-false k j other)))
 
 passed-few : (places : List Place) (ended : List Ended) (last rest step k : ℕ) → length places ≡ 20 → length ended ≡ 160
     → Passed places ended last rest step k → k < 255
 passed-few places ended last rest step k twenty all before =
     let number : Ended → ℕ = λ e. e.number in
-    others-few (isResting rest step ended) (map number ended) (covers-resting rest step ended) (omega (arith, length-map ended number, all)) places
+    others-few (is_resting rest step ended) (map number ended) (covers-resting rest step ended) (omega (arith, length-map ended number, all)) places
     twenty last k before
 
 -- the first that is not passed is the next number
-passed-all : (places : List Place) (ended : List Ended) (last rest step k number : ℕ) (tested : Bool) → k < 255 → number ≡ numberAfter last k
+passed-all : (places : List Place) (ended : List Ended) (last rest step k number : ℕ) (tested : Bool) → k < 255 → number ≡ number_after last k
     → tested ≡ permits places ended rest step number → not tested ≡ false → Passed places ended last rest step k
-    → number ≡ nextNumber (isResting rest step ended) places last
+    → number ≡ next_number (is_resting rest step ended) places last
 passed-all places ended last rest step k number tested few same e kept before =
-    same ∙ sym (number-first (isResting rest step ended) places last k few (sym (rw same at e) ∙ not-false tested kept) before)
+    same ∙ sym (number-first (is_resting rest step ended) places last k few (sym (rw same at e) ∙ not-false tested kept) before)
 
 abbrev invariant-loop : tie.invariant-loop
 invariant-loop places ended last rest step others₀ number₀ others number =
-    (others < 255) × (number ≡ numberAfter last others) × Passed places ended last rest step others
+    (others < 255) × (number ≡ number_after last others) × Passed places ended last rest step others
 
 abbrev decreases-loop : tie.decreases-loop
 decreases-loop places ended last rest step others₀ number₀ others number = 255 - others

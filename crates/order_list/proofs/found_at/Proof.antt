@@ -8,8 +8,8 @@ use lib.Dec.{eqb}
 use lib.ListN.{get_or}
 use native.Mathlib.Omega.{arith}
 use borrow.Author.Rules.{rules}
-use Rattle.order_list.specs.Lists.{foundAt}
-use Rattle.order_list.proofs.Marked.{marked, most, marked_turn, marked-end, marked-least, marked-most, marked-first}
+use Rattle.order_list.specs.Lists.{found_at}
+use Rattle.order_list.proofs.Marked.{marked, most, marked_turn, marked-end, marked_least, marked-most, marked-first}
 use Rattle.order_list.proofs.found_at.Statement.{statement}
 use Rattle.order_list.proofs.found_at.Tie as tie
 
@@ -24,8 +24,8 @@ small : (numbers : List ℕ) (number : ℕ) → whole numbers number < 0x200000
 unfolding most
 small numbers number = omega (arith, marked-most (test numbers number) 1 0 20)
 
-first : (numbers : List ℕ) (number : ℕ) → count_trailing_zeros 32 (whole numbers number) ≡ foundAt numbers number
-unfolding foundAt
+first : (numbers : List ℕ) (number : ℕ) → count_trailing_zeros 32 (whole numbers number) ≡ found_at numbers number
+unfolding found_at
 first numbers number =
     let from_zero : 0 + count_trailing_zeros 32 (whole numbers number) ≡ count_trailing_zeros 32 (whole numbers number) = omega arith in
     sym from_zero ∙ marked-first (test numbers number) 32 0 20 (omega arith)
@@ -58,7 +58,7 @@ module _ (numbers : List ℕ) (number bits bit i added : ℕ) (p : i < 20) (e : 
   sum-small = omega (arith, turned, small numbers number)
 
   bit-small : bit * 2 < 0x200000
-  bit-small = omega (arith, turned, small numbers number, marked-least (test numbers number) (bit * 2) (i + 1) (20 - (i + 1)))
+  bit-small = omega (arith, turned, small numbers number, marked_least (test numbers number) (bit * 2) (i + 1) (20 - (i + 1)))
 
 -- past the last turn the next bit is the one past them all
 ended : (numbers : List ℕ) (number bits bit i : ℕ) → 20 ≤ i → bits + marked (test numbers number) bit i (20 - i) ≡ whole numbers number

@@ -8,7 +8,7 @@ use lib.Dec.{eqb}
 use borrow.Author.Rules.{rules}
 use borrow.Author.Tests.{eq-eqb, ne_eqb}
 use Rattle.kit.specs.Loops.{scan}
-use Rattle.kit.proofs.Loops.{scan-go, scan-hit, scan-end}
+use Rattle.kit.proofs.Loops.{scan-go, scan_hit, scan-end}
 use Rattle.order_list.specs.Lists.{order_at, listed_at}
 use Rattle.order_list.proofs.listed_at.Statement.{statement}
 use Rattle.order_list.proofs.listed_at.Tie as tie
@@ -32,7 +32,7 @@ order-at-requires c κs = search rules
 returns : tie.Need-returns invariant-loop decreases-loop
 returns c =
     let l = c.before.before.before.before.loop in
-    sym (l.invariant.1 ∙ scan-hit _ _ _ _ l.j (search rules) (eq-eqb _ _ (sym (ap (λ x. x.number) c.before.before.order-at.ensures) ∙ c.if1.true)))
+    sym (l.invariant.1 ∙ scan_hit _ _ _ _ l.j (search rules) (eq-eqb _ _ (sym (ap (λ x. x.number) c.before.before.order-at.ensures) ∙ c.if1.true)))
 
 add-j : tie.Need-overflow-add-j invariant-loop decreases-loop
 add-j c = search rules

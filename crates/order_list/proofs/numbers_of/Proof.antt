@@ -7,20 +7,20 @@ use native.Mathlib.Omega.{arith}
 use borrow.Author.Rules.{rules}
 use Rattle.kit.specs.Fill.{Filled}
 use Rattle.kit.proofs.Fill.{filled_none, filled_more, filled-all}
-use Rattle.order_list.specs.Lists.{order_at, numbersOf}
+use Rattle.order_list.specs.Lists.{order_at, numbers_of}
 use Rattle.order_list.specs.declared.Order.{Order}
 use Rattle.order_list.proofs.Listed.{numbers-long, number_at}
 use Rattle.order_list.proofs.numbers_of.Statement.{statement}
 use Rattle.order_list.proofs.numbers_of.Tie as tie
 
 abbrev invariant-loop : tie.invariant-loop
-invariant-loop list numbers₀ j₀ numbers j = (j ≤ 20) × Filled 0 (numbersOf list) j numbers
+invariant-loop list numbers₀ j₀ numbers j = (j ≤ 20) × Filled 0 (numbers_of list) j numbers
 
 abbrev decreases-loop : tie.decreases-loop
 decreases-loop list numbers₀ j₀ numbers j = 20 - j
 
-filled : (list : List ℕ) (j : ℕ) (order : Order) (numbers : List ℕ) → j < 20 → order ≡ order_at list j → Filled 0 (numbersOf list) j numbers
-    → Filled 0 (numbersOf list) (j + 1) (set numbers j order.number)
+filled : (list : List ℕ) (j : ℕ) (order : Order) (numbers : List ℕ) → j < 20 → order ≡ order_at list j → Filled 0 (numbers_of list) j numbers
+    → Filled 0 (numbers_of list) (j + 1) (set numbers j order.number)
 filled list j order numbers p e f =
     filled_more (omega (arith, numbers-long list)) f (ap (λ (o : Order). o.number) e ∙ sym (number_at list j p))
 

@@ -9,32 +9,32 @@ use native.Mathlib.Omega.{arith}
 use borrow.Author.Rules.{rules}
 use borrow.Author.Tests.{lt-ltb, le-ltb}
 use Rattle.kit.proofs.Maps.{map_at}
-use Rattle.condition.specs.Slots.{codedOf, slotCount}
-use Rattle.order_list.specs.Lists.{foundAt}
+use Rattle.condition.specs.Slots.{coded_of, slot_count}
+use Rattle.order_list.specs.Lists.{found_at}
 use Rattle.order_list.specs.declared.Order.{Order}
-use Rattle.places.specs.Places.{freePlace, ordersOf, placeOf}
+use Rattle.places.specs.Places.{free_place, orders_of, place_of}
 use Rattle.places.specs.declared.Place.{Place}
 use Rattle.places.proofs.Live.{found-live}
-use Rattle.orders.specs.Orders.{types_of, isRetyped}
+use Rattle.orders.specs.Orders.{types_of, is_retyped}
 use Rattle.orders.proofs.is_retyped.Statement.{statement}
 use Rattle.orders.proofs.is_retyped.Tie as tie
 
 -- by the orders and the types of the places
-module _ (live types : List ℕ) (order : Order) (at : ℕ) (found : at ≡ foundAt live order.number) (places : List Place)
-    (twenty : length places ≡ slotCount) (e : live ≡ ordersOf places) (f : types ≡ types_of places) where
-  placed : placeOf places order.number ≡ at
-  placed = sym (found ∙ (ap (λ (l : List ℕ). foundAt l order.number) e ∙ found-live places order.number twenty))
+module _ (live types : List ℕ) (order : Order) (at : ℕ) (found : at ≡ found_at live order.number) (places : List Place)
+    (twenty : length places ≡ slot_count) (e : live ≡ orders_of places) (f : types ≡ types_of places) where
+  placed : place_of places order.number ≡ at
+  placed = sym (found ∙ (ap (λ (l : List ℕ). found_at l order.number) e ∙ found-live places order.number twenty))
 
-  typed : at < slotCount → get_or types at 0 ≡ (codedOf (get_or places at freePlace).slot).kind
-  typed p = ap (λ (l : List ℕ). get_or l at 0) f ∙ map_at (λ (place : Place). (codedOf place.slot).kind) places at freePlace 0 (omega (arith, twenty))
+  typed : at < slot_count → get_or types at 0 ≡ (coded_of (get_or places at free_place).slot).kind
+  typed p = ap (λ (l : List ℕ). get_or l at 0) f ∙ map_at (λ (place : Place). (coded_of place.slot).kind) places at free_place 0 (omega (arith, twenty))
 
-  judged : at < slotCount → not (eqb (get_or types at 0) order.kind) ≡ isRetyped places order
-  unfolding isRetyped
-  judged p = rw (placed, lt-ltb at slotCount p, typed p) refl
+  judged : at < slot_count → not (eqb (get_or types at 0) order.kind) ≡ is_retyped places order
+  unfolding is_retyped
+  judged p = rw (placed, lt-ltb at slot_count p, typed p) refl
 
-  unplaced : slotCount ≤ at → false ≡ isRetyped places order
-  unfolding isRetyped
-  unplaced p = rw (placed, le-ltb at slotCount p) refl
+  unplaced : slot_count ≤ at → false ≡ is_retyped places order
+  unfolding is_retyped
+  unplaced p = rw (placed, le-ltb at slot_count p) refl
 
 found-at-requires : tie.Need-found-at-requires
 found-at-requires c κs = search rules

@@ -7,10 +7,10 @@ use native.Mathlib.Omega.{arith}
 use borrow.Author.Rules.{rules}
 use borrow.Author.Tests.{eq-eqb, ne_eqb, not-true, not-false}
 use Rattle.kit.specs.Ladder.{ladder}
-use Rattle.order_list.specs.Lists.{isListed, numbersOf, foundAt}
-use Rattle.order_list.proofs.Found.{listed-early, listed-late}
+use Rattle.order_list.specs.Lists.{is_listed, numbers_of, found_at}
+use Rattle.order_list.proofs.Found.{listed_early, listed-late}
 use Rattle.places.specs.declared.Place.{Place}
-use Rattle.orders.specs.Orders.{isRetyped, orderRows}
+use Rattle.orders.specs.Orders.{is_retyped, order_rows}
 use Rattle.orders.proofs.order_refusal.Statement.{statement}
 use Rattle.orders.proofs.order_refusal.Tie as tie
 use Rattle.orders.proofs.order_refusal.Reads as reads
@@ -25,14 +25,14 @@ order-at-requires : tie.Need-order-at-requires
 order-at-requires c κs = search rules
 
 returns : tie.Need-returns
-unfolding ladder orderRows
+unfolding ladder order_rows
 returns c places twenty e f = simp (sym c.before.before.order-at.ensures, eq-eqb _ _ c.if1.true)
 
 is-kind-requires : tie.Need-is-kind-requires
 is-kind-requires c κs = search rules
 
 returns-2 : tie.Need-returns-2
-unfolding ladder orderRows
+unfolding ladder order_rows
 returns-2 c places twenty e f =
     simp (
       sym c.before.before.before.before.order-at.ensures,
@@ -41,7 +41,7 @@ returns-2 c places twenty e f =
     )
 
 returns-3 : tie.Need-returns-3
-unfolding ladder orderRows
+unfolding ladder order_rows
 returns-3 c places twenty e f =
     simp (
       sym c.before.before.before.before.before.before.order-at.ensures,
@@ -57,9 +57,9 @@ second-allowed-requires c κs = search rules
 passed : (c : lts.After-second-allowed (order-at-reads.Asked, order-at-reads.Learnt, is-kind-reads.Asked, is-kind-reads.Learnt, second-allowed-reads.Asked, second-allowed-reads.Learnt, found-at-reads.Asked, found-at-reads.Learnt, is-retyped-reads.Asked, is-retyped-reads.Learnt) reads.Pre reads.Post) (places : List Place)
     → let a = c.before.before.before.before.before.before.before.before.before.args in
     let x = c.before.before.before.before.before.before.before.order-at.result in
-    ladder 0 (orderRows places a.list.now a.j)
-    ≡ cond (not c.second-allowed.result) 6 (cond (isListed a.list.now a.j x.number) 7 (cond (isRetyped places x) 8 0))
-unfolding ladder orderRows
+    ladder 0 (order_rows places a.list.now a.j)
+    ≡ cond (not c.second-allowed.result) 6 (cond (is_listed a.list.now a.j x.number) 7 (cond (is_retyped places x) 8 0))
+unfolding ladder order_rows
 passed c places =
     simp (
       sym c.before.before.before.before.before.before.before.order-at.ensures,
@@ -83,13 +83,13 @@ module _ (c : lts.After-found-at (order-at-reads.Asked, order-at-reads.Learnt, i
   abbrev number : ℕ
   number = c.before.before.before.before.before.before.before.before.before.order-at.result.number
 
-  found : c.found_at.result ≡ foundAt (numbersOf start.args.list.now) number
-  found = c.found_at.ensures ∙ ap (λ (l : List ℕ). foundAt l number) start.pre.1
+  found : c.found_at.result ≡ found_at (numbers_of start.args.list.now) number
+  found = c.found_at.ensures ∙ ap (λ (l : List ℕ). found_at l number) start.pre.1
 
-  earlier : c.found_at.result < start.args.j → isListed start.args.list.now start.args.j number ≡ true
-  earlier = listed-early start.args.list.now number start.args.j c.found_at.result (omega (arith, start.pre.0)) found
+  earlier : c.found_at.result < start.args.j → is_listed start.args.list.now start.args.j number ≡ true
+  earlier = listed_early start.args.list.now number start.args.j c.found_at.result (omega (arith, start.pre.0)) found
 
-  unlisted : start.args.j ≤ c.found_at.result → isListed start.args.list.now start.args.j number ≡ false
+  unlisted : start.args.j ≤ c.found_at.result → is_listed start.args.list.now start.args.j number ≡ false
   unlisted = listed-late start.args.list.now number start.args.j c.found_at.result (omega (arith, start.pre.0)) found
 
 returns-5 : tie.Need-returns-5

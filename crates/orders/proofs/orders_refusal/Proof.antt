@@ -7,22 +7,22 @@ use native.Mathlib.Nat.{sub-zero}
 use borrow.Author.Rules.{rules}
 use Rattle.kit.specs.Each.{each}
 use Rattle.kit.specs.Ladder.{ladder}
-use Rattle.kit.specs.Loops.{firstNonzero}
+use Rattle.kit.specs.Loops.{first_nonzero}
 use Rattle.kit.proofs.Ladder.{ladder-each}
-use Rattle.kit.proofs.Loops.{first-go, first-hit, scan-end}
-use Rattle.condition.specs.Slots.{slotCount}
-use Rattle.orders.specs.Orders.{OfPlaces, orderRows}
+use Rattle.kit.proofs.Loops.{first-go, first_hit, scan-end}
+use Rattle.condition.specs.Slots.{slot_count}
+use Rattle.orders.specs.Orders.{OfPlaces, order_rows}
 use Rattle.places.specs.declared.Place.{Place}
 use Rattle.orders.proofs.Rows.{order-numbered}
 use Rattle.orders.proofs.orders_refusal.Statement.{statement}
 use Rattle.orders.proofs.orders_refusal.Tie as tie
 
 abbrev judged : List Place → List ℕ → ℕ → ℕ
-judged places list j = ladder 0 (orderRows places list j)
+judged places list j = ladder 0 (order_rows places list j)
 
 -- what is left to judge from order j on, of any places whose orders and types are at hand
 abbrev Left : List ℕ → ℕ → ℕ → List Place → Type 0
-Left list n j places = ladder 0 (each (orderRows places list) 0 n) ≡ firstNonzero (judged places list) j (n - j)
+Left list n j places = ladder 0 (each (order_rows places list) 0 n) ≡ first_nonzero (judged places list) j (n - j)
 
 abbrev invariant-loop : tie.invariant-loop
 invariant-loop list n live types numbers j₀ j = (j ≤ n) × OfPlaces live types (Left list n j)
@@ -42,7 +42,7 @@ numbers-of-requires c κs = search rules
 loop-holds : tie.Need-loop-init invariant-loop decreases-loop
 loop-holds c =
     let a = c.before.before.before.before.args in
-    (search rules, λ places twenty e f. ladder-each (orderRows places a.list.now) (order-numbered places a.list.now) 0 a.n ∙ simp sub-zero)
+    (search rules, λ places twenty e f. ladder-each (order_rows places a.list.now) (order-numbered places a.list.now) 0 a.n ∙ simp sub-zero)
 
 order-refusal-requires : tie.Need-order-refusal-requires invariant-loop decreases-loop
 order-refusal-requires c κs =
@@ -56,12 +56,12 @@ returns c =
     let typed = c.before.before.before.before.before.before.before.before in
     let start = typed.before.before.before in
     let a = start.args in
-    let twenty : length a.places ≡ slotCount = start.well-formed.0.1.0.1 in
+    let twenty : length a.places ≡ slot_count = start.well-formed.0.1.0.1 in
     let e = c.before.order-refusal.ensures a.places twenty typed.before.orders-of.ensures typed.types_of.ensures in
     e
     ∙ sym
     (l.invariant.1 a.places twenty typed.before.orders-of.ensures typed.types_of.ensures
-    ∙ first-hit (judged a.places a.list.now) a.n l.j (search rules) (λ z. c.if1.true (e ∙ z)))
+    ∙ first_hit (judged a.places a.list.now) a.n l.j (search rules) (λ z. c.if1.true (e ∙ z)))
 
 add-j : tie.Need-overflow-add-j invariant-loop decreases-loop
 add-j c = search rules
@@ -85,7 +85,7 @@ returns-2 c =
     let typed = c.before.before.before in
     let start = typed.before.before.before in
     let a = start.args in
-    let twenty : length a.places ≡ slotCount = start.well-formed.0.1.0.1 in
+    let twenty : length a.places ≡ slot_count = start.well-formed.0.1.0.1 in
     sym (l.invariant.1 a.places twenty typed.before.orders-of.ensures typed.types_of.ensures ∙ scan-end _ _ _ a.n l.j (search rules))
 
 pub orders-refusal-spec : {M : Type 1} → statement M

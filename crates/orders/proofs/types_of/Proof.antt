@@ -5,28 +5,28 @@ use lib.ListN.{length}
 use native.Mathlib.Omega.{arith}
 use borrow.Author.Rules.{rules}
 use Rattle.kit.specs.Fill.{Filled}
-use Rattle.kit.proofs.Fill.{mapped-none, mapped-more, mapped-all}
-use Rattle.condition.specs.Slots.{codedOf, slotCount}
+use Rattle.kit.proofs.Fill.{mapped_none, mapped_more, mapped_all}
+use Rattle.condition.specs.Slots.{coded_of, slot_count}
 use Rattle.condition.specs.declared.slots.Coded.{Coded}
-use Rattle.places.specs.Places.{freePlace}
+use Rattle.places.specs.Places.{free_place}
 use Rattle.places.specs.declared.Place.{Place}
 use Rattle.orders.specs.Orders.{types_of}
 use Rattle.orders.proofs.types_of.Statement.{statement}
 use Rattle.orders.proofs.types_of.Tie as tie
 
 abbrev kind : Place → ℕ
-kind place = (codedOf place.slot).kind
+kind place = (coded_of place.slot).kind
 
 abbrev invariant-loop : tie.invariant-loop
-invariant-loop places types₀ i₀ types i = (i ≤ slotCount) × Filled 0 (types_of places) i types
+invariant-loop places types₀ i₀ types i = (i ≤ slot_count) × Filled 0 (types_of places) i types
 
 abbrev decreases-loop : tie.decreases-loop
-decreases-loop places types₀ i₀ types i = slotCount - i
+decreases-loop places types₀ i₀ types i = slot_count - i
 
 loop-holds : tie.Need-loop-init invariant-loop decreases-loop
 loop-holds c =
-    let twenty : length c.args.t1 ≡ slotCount = c.well-formed.0.1.0.1 in
-    (search rules, mapped-none kind c.args.t1 (sym twenty))
+    let twenty : length c.args.t1 ≡ slot_count = c.well-formed.0.1.0.1 in
+    (search rules, mapped_none kind c.args.t1 (sym twenty))
 
 mul-place : tie.Need-overflow-mul-place invariant-loop decreases-loop
 mul-place c = search rules
@@ -50,17 +50,17 @@ loop-again : tie.Need-loop-preserved invariant-loop decreases-loop
 loop-again c =
     let l = c.before.before.before.loop in
     let start = c.before.before.before.before in
-    let twenty : length start.args.t1 ≡ slotCount = start.well-formed.0.1.0.1 in
-    let p : l.i < slotCount = search rules in
-    (search rules, mapped-more kind start.args.t1 freePlace (omega (arith, twenty)) l.invariant.1 (ap (λ (x : Coded). x.kind) c.coded-of.ensures))
+    let twenty : length start.args.t1 ≡ slot_count = start.well-formed.0.1.0.1 in
+    let p : l.i < slot_count = search rules in
+    (search rules, mapped_more kind start.args.t1 free_place (omega (arith, twenty)) l.invariant.1 (ap (λ (x : Coded). x.kind) c.coded-of.ensures))
 
 returns : tie.Need-returns invariant-loop decreases-loop
 returns c =
     let l = c.before.loop in
     let start = c.before.before in
-    let twenty : length start.args.t1 ≡ slotCount = start.well-formed.0.1.0.1 in
-    let past : slotCount ≤ l.i = search rules in
-    mapped-all kind start.args.t1 (omega (arith, twenty)) l.invariant.1
+    let twenty : length start.args.t1 ≡ slot_count = start.well-formed.0.1.0.1 in
+    let past : slot_count ≤ l.i = search rules in
+    mapped_all kind start.args.t1 (omega (arith, twenty)) l.invariant.1
 
 pub types-of-spec : {M : Type 1} → statement M
 types-of-spec =

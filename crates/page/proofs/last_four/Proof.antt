@@ -2,7 +2,7 @@
 use Prim.Native.Nat.{◌/◌, ◌%◌}
 use mathlib.Core.Path.{◌∙◌}
 use native.Mathlib.Omega.{arith}
-use Rattle.page.proofs.Digits.{tens-below, two_digits, four-digits}
+use Rattle.page.proofs.Digits.{tens-below, two_digits, four_digits_lem}
 use borrow.Author.Rules.{rules}
 use Rattle.page.proofs.last_four.Statement.{statement}
 use Rattle.page.proofs.last_four.Tie as tie
@@ -32,7 +32,7 @@ sub-result : tie.Need-overflow-sub-result
 sub-result c = tens-below (c.args.n % 10000 / 100) (c.args.n % 10000 % 100) (omega arith) (omega arith)
 
 returns : tie.Need-returns
-returns c = two_digits (c.args.n % 10000 / 100) (c.args.n % 10000 % 100) (omega arith) (omega arith) ∙ four-digits c.args.n
+returns c = two_digits (c.args.n % 10000 / 100) (c.args.n % 10000 % 100) (omega arith) (omega arith) ∙ four_digits_lem c.args.n
 
 pub last-four-spec : {M : Type 1} → statement M
 last-four-spec =

@@ -5,8 +5,8 @@ use mathlib.Core.List.{List}
 use native.Mathlib.Omega.{arith}
 use lib.ListN.{length, take, drop, get_or}
 use borrow.Author.Rules.{rules}
-use Rattle.page.specs.Packed.{Small, noneSmall, numberMade}
-use Rattle.page.proofs.Packed.{packed_none, packed_more, small-more, packed-fits}
+use Rattle.page.specs.Packed.{Small, none_small, number_made}
+use Rattle.page.proofs.Packed.{packed_none, packed_more, small-more, packed_fits}
 use Rattle.page.proofs.piece_of.Statement.{statement}
 use Rattle.page.proofs.piece_of.Tie as tie
 
@@ -15,7 +15,7 @@ abbrev left : List ℕ → ℕ → ℕ → List ℕ
 left words from i = drop (i - from) (take 8 (drop from words))
 
 abbrev invariant-loop : tie.invariant-loop
-invariant-loop words from piece₀ i₀ piece i = (i ≤ min (length words) (from + 8)) × (piece ≡ numberMade (left words from i)) × Small (left words from i)
+invariant-loop words from piece₀ i₀ piece i = (i ≤ min (length words) (from + 8)) × (piece ≡ number_made (left words from i)) × Small (left words from i)
 
 abbrev decreases-loop : tie.decreases-loop
 decreases-loop words from piece₀ i₀ piece i = i
@@ -27,12 +27,12 @@ at-most-requires : tie.Need-at-most-requires invariant-loop decreases-loop
 at-most-requires c κs = search rules
 
 loop-holds : tie.Need-loop-init invariant-loop decreases-loop
-unfolding numberMade
+unfolding number_made
 loop-holds c =
     let start = c.before.before in
     let words = start.args.words.now in
     let nothing = packed_none words start.args.from c.at_most.result c.at_most.ensures in
-    (omega (arith, c.at_most.ensures), sym (ap numberMade nothing), subst Small (sym nothing) noneSmall)
+    (omega (arith, c.at_most.ensures), sym (ap number_made nothing), subst Small (sym nothing) none_small)
 
 sub-i : tie.Need-overflow-sub-i invariant-loop decreases-loop
 sub-i c = search rules
@@ -41,7 +41,7 @@ mul-piece : tie.Need-overflow-mul-piece invariant-loop decreases-loop
 mul-piece c =
     let start = c.before.before.before.before in
     let l = c.before.loop in
-    omega (arith, l.invariant.1, packed-fits start.args.words.now start.args.from l.i (omega arith) l.invariant.0 l.invariant.2)
+    omega (arith, l.invariant.1, packed_fits start.args.words.now start.args.from l.i (omega arith) l.invariant.0 l.invariant.2)
 
 shared-slice-read-piece : tie.Need-shared-slice-read-piece invariant-loop decreases-loop
 shared-slice-read-piece c = search rules
@@ -53,7 +53,7 @@ add-piece : tie.Need-overflow-add-piece invariant-loop decreases-loop
 add-piece c =
     let start = c.before.before.before.before.before in
     let l = c.before.before.loop in
-    omega (arith, l.invariant.1, c.shared-slice-known2.given (l.i - 1), packed-fits start.args.words.now start.args.from l.i (omega arith) l.invariant.0 l.invariant.2)
+    omega (arith, l.invariant.1, c.shared-slice-known2.given (l.i - 1), packed_fits start.args.words.now start.args.from l.i (omega arith) l.invariant.0 l.invariant.2)
 
 loop-less : tie.Need-loop-smaller invariant-loop decreases-loop
 loop-less c = search rules
@@ -76,7 +76,7 @@ returns c =
     let l = c.before.loop in
     let all : l.i - start.args.from ≡ 0 = omega arith in
     let whole = ap (λ n. drop n (take 8 (drop start.args.from start.args.words.now))) all in
-    (l.invariant.1 ∙ ap numberMade whole, subst Small whole l.invariant.2)
+    (l.invariant.1 ∙ ap number_made whole, subst Small whole l.invariant.2)
 
 pub piece-of-spec : {M : Type 1} → statement M
 piece-of-spec =

@@ -4,7 +4,7 @@ use mathlib.Core.Path.{refl, ap, ◌∙◌}
 use mathlib.Core.List.{◌++◌}
 use lib.Seq.{sets}
 use Rattle.page.proofs.Pages.{sets-twice}
-use Rattle.page.proofs.Packed.{twoDigits, eight-hex}
+use Rattle.page.proofs.Packed.{hex_pair, eight_hex}
 use borrow.Author.Rules.{rules}
 use Rattle.page.proofs.put_all_digits.Statement.{statement}
 use Rattle.page.proofs.put_all_digits.Tie as tie
@@ -51,13 +51,13 @@ returns c =
     let number : ℕ = start.args.number in
     let page = start.args.page.now in
     let at : ℕ = start.args.at in
-    let first = twoDigits (number / 0x1000000) in
-    let second = twoDigits (number / 0x10000 % 256) in
-    let third = twoDigits (number / 0x100 % 256) in
+    let first = hex_pair (number / 0x1000000) in
+    let second = hex_pair (number / 0x10000 % 256) in
+    let third = hex_pair (number / 0x100 % 256) in
     let two = sets-twice page at first second c.before.before.before.before.before.before.before.before.before.before.before.before.before.before.put_two.ensures refl c.before.before.before.before.before.before.before.before.before.before.put-two2.ensures in
     let three = sets-twice page at (first ++ second) third two refl c.before.before.before.before.before.before.put-two3.ensures in
-    let four = sets-twice page at ((first ++ second) ++ third) (twoDigits (number % 256)) three refl c.before.before.put-two4.ensures in
-    four ∙ ap (sets page at) (eight-hex number start.ranges.number.fits)
+    let four = sets-twice page at ((first ++ second) ++ third) (hex_pair (number % 256)) three refl c.before.before.put-two4.ensures in
+    four ∙ ap (sets page at) (eight_hex number start.ranges.number.fits)
 
 pub put-all-digits-spec : {M : Type 1} → statement M
 put-all-digits-spec =

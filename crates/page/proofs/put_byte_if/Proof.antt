@@ -6,8 +6,8 @@ use lib.ListN.{length}
 use native.Mathlib.Omega.{arith}
 use mir.Val.{bool_byte}
 use borrow.Author.Tests.{le-leb, lt-leb}
-use Rattle.page.proofs.Packed.{flags-fit, kept_if}
-use Rattle.page.proofs.Pages.{paged-as, paged-most, paged-sets, laid-room, laid-full}
+use Rattle.page.proofs.Packed.{flags_fit, kept_if}
+use Rattle.page.proofs.Pages.{paged_as, paged-most, paged-sets, laid_room, laid_full}
 use borrow.Author.Rules.{rules}
 use Rattle.page.proofs.put_byte_if.Statement.{statement}
 use Rattle.page.proofs.put_byte_if.Tie as tie
@@ -19,7 +19,7 @@ cast-result : tie.Need-overflow-cast-result
 cast-result c = search rules
 
 add-result : tie.Need-overflow-add-result
-add-result c = omega (arith, flags-fit c.before.args.wanted)
+add-result c = omega (arith, flags_fit c.before.args.wanted)
 
 same_length : tie.Need-same-length
 same_length c = search rules
@@ -28,12 +28,12 @@ returns : tie.Need-returns
 returns c =
     let a = c.before.args in
     let page = a.page.now in
-    laid-room (le-leb (a.at + 1) (length page) (omega arith)) refl
-    (paged-most (flags-fit a.wanted)
-    (paged-as (sym (kept_if a.wanted a.byte [])) (paged-sets page a.at (a.byte ∷ []) (bool_byte a.wanted) (omega arith) (flags-fit a.wanted))))
+    laid_room (le-leb (a.at + 1) (length page) (omega arith)) refl
+    (paged-most (flags_fit a.wanted)
+    (paged_as (sym (kept_if a.wanted a.byte [])) (paged-sets page a.at (a.byte ∷ []) (bool_byte a.wanted) (omega arith) (flags_fit a.wanted))))
 
 returns-2 : tie.Need-returns-2
-returns-2 c = let a = c.before.args in laid-full (lt-leb (a.at + 1) (length a.page.now) (omega arith))
+returns-2 c = let a = c.before.args in laid_full (lt-leb (a.at + 1) (length a.page.now) (omega arith))
 
 pub put-byte-if-spec : {M : Type 1} → statement M
 put-byte-if-spec =

@@ -5,7 +5,7 @@ use native.Mathlib.Omega.{arith}
 use Rattle.page.specs.Packed.{low_bytes}
 use Rattle.page.proofs.Pages.{laid_as}
 use mir.Val.{bool_byte}
-use Rattle.page.proofs.Packed.{flags-fit, most-if, five-piece, five-shown}
+use Rattle.page.proofs.Packed.{flags_fit, most_if, five_piece, five-shown}
 use borrow.Author.Rules.{rules}
 use Rattle.page.proofs.put_digits.Statement.{statement}
 use Rattle.page.proofs.put_digits.Tie as tie
@@ -53,10 +53,10 @@ cast-put-piece : tie.Need-overflow-cast-put-piece
 cast-put-piece c = search rules
 
 add-put-piece-2 : tie.Need-overflow-add-put-piece-2
-add-put-piece-2 c = omega (arith, flags-fit c.before.before.before.before.args.wanted)
+add-put-piece-2 c = omega (arith, flags_fit c.before.before.before.before.args.wanted)
 
 put-piece-requires : tie.Need-put-piece-requires
-put-piece-requires c κs = omega (arith, flags-fit c.before.before.before.before.args.wanted)
+put-piece-requires c κs = omega (arith, flags_fit c.before.before.before.before.args.wanted)
 
 same_length : tie.Need-same-length
 same_length c = search rules
@@ -69,9 +69,9 @@ returns c =
     let number = start.args.number in
     let after = start.args.after in
     let wanted = start.args.wanted in
-    let piece = five-piece number after digits.result start.ranges.number.fits start.ranges.after.fits digits.ensures.0 four.last-four.result four.last-four.ensures in
+    let piece = five_piece number after digits.result start.ranges.number.fits start.ranges.after.fits digits.ensures.0 four.last-four.result four.last-four.ensures in
     let shown = five-shown number after digits.result start.ranges.number.fits start.ranges.after.fits digits.ensures.0 wanted in
-    laid_as (shown ∙ ap (low_bytes (digits.result + 1 + bool_byte wanted)) (sym piece)) (ap (low_bytes 8) (sym piece)) (most-if wanted digits.result digits.ensures.1) c.before.before.put-piece.ensures
+    laid_as (shown ∙ ap (low_bytes (digits.result + 1 + bool_byte wanted)) (sym piece)) (ap (low_bytes 8) (sym piece)) (most_if wanted digits.result digits.ensures.1) c.before.before.put-piece.ensures
 
 pub put-digits-spec : {M : Type 1} → statement M
 put-digits-spec =

@@ -7,7 +7,7 @@ use lib.Seq.{take_all}
 use borrow.Author.Tests.{leb-true}
 use Rattle.text.specs.Hexadecimals.{hexadecimal}
 use Rattle.text.proofs.Numerals.{hexadecimal-long}
-use Rattle.page.proofs.Pages.{paged-as, paged-stored, laid-room, laid-full}
+use Rattle.page.proofs.Pages.{paged_as, paged-stored, laid_room, laid_full}
 use borrow.Author.Rules.{rules}
 use Rattle.page.proofs.put_hexadecimal.Statement.{statement}
 use Rattle.page.proofs.put_hexadecimal.Tie as tie
@@ -32,11 +32,11 @@ returns c =
     let room = sym c.before.before.before.before.before.has_room.ensures ∙ c.before.before.before.before.if1.true in
     let long : length (hexadecimal 8 number) ≡ 8 = hexadecimal-long 8 number in
     let whole : take 8 (hexadecimal 8 number) ≡ hexadecimal 8 number = take_all 8 (hexadecimal 8 number) (omega arith) in
-    laid-room room same
-    (paged-as (sym whole) (paged-stored start.args.page.now start.args.at (hexadecimal 8 number) 8 (omega (arith, leb-true (start.args.at + 8) (length start.args.page.now) room)) (omega arith) same))
+    laid_room room same
+    (paged_as (sym whole) (paged-stored start.args.page.now start.args.at (hexadecimal 8 number) 8 (omega (arith, leb-true (start.args.at + 8) (length start.args.page.now) room)) (omega arith) same))
 
 returns-2 : tie.Need-returns-2
-returns-2 c = laid-full (sym c.before.has_room.ensures ∙ c.if1.false)
+returns-2 c = laid_full (sym c.before.has_room.ensures ∙ c.if1.false)
 
 pub put-hexadecimal-spec : {M : Type 1} → statement M
 put-hexadecimal-spec =

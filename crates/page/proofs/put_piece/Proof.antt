@@ -4,7 +4,7 @@ use mathlib.Core.Path.{sym, ◌∙◌}
 use lib.ListN.{length}
 use native.Mathlib.Omega.{arith}
 use borrow.Author.Tests.{leb-true}
-use Rattle.page.proofs.Pages.{paged-low, laid-room, laid-full}
+use Rattle.page.proofs.Pages.{paged-low, laid_room, laid_full}
 use borrow.Author.Rules.{rules}
 use Rattle.page.proofs.put_piece.Statement.{statement}
 use Rattle.page.proofs.put_piece.Tie as tie
@@ -26,10 +26,10 @@ returns c =
     let start = c.before.before.before.before.before.before.before in
     let same = c.before.before.put-eight.ensures in
     let room = sym c.before.before.before.before.before.has_room.ensures ∙ c.before.before.before.before.if1.true in
-    laid-room room same (paged-low start.args.page.now start.args.at 8 start.args.count start.args.piece (leb-true (start.args.at + 8) (length start.args.page.now) room) start.requires same)
+    laid_room room same (paged-low start.args.page.now start.args.at 8 start.args.count start.args.piece (leb-true (start.args.at + 8) (length start.args.page.now) room) start.requires same)
 
 returns-2 : tie.Need-returns-2
-returns-2 c = laid-full (sym c.before.has_room.ensures ∙ c.if1.false)
+returns-2 c = laid_full (sym c.before.has_room.ensures ∙ c.if1.false)
 
 pub put-piece-spec : {M : Type 1} → statement M
 put-piece-spec =

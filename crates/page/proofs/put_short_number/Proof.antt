@@ -2,8 +2,8 @@
 use mathlib.Core.Path.{ap, ◌∙◌}
 use native.Mathlib.Omega.{arith}
 use Rattle.page.specs.Packed.{low_bytes}
-use Rattle.page.proofs.Packed.{one_piece, one-shown, byte-then}
-use Rattle.page.proofs.Pages.{laid_as, laid-tight}
+use Rattle.page.proofs.Packed.{one_piece, one-shown, byte_then}
+use Rattle.page.proofs.Pages.{laid_as, laid_tight}
 use borrow.Author.Rules.{rules}
 use Rattle.page.proofs.put_short_number.Statement.{statement}
 use Rattle.page.proofs.put_short_number.Tie as tie
@@ -43,7 +43,7 @@ same-length-2 c = search rules
 returns-2 : tie.Need-returns-2
 returns-2 c =
     let start = c.before.before.before.before.before.before in
-    laid-tight (byte-then start.args.number start.args.after start.ranges.number.fits) c.before.before.put-digits.ensures
+    laid_tight (byte_then start.args.number start.args.after start.ranges.number.fits) c.before.before.put-digits.ensures
 
 pub put-short-number-spec : {M : Type 1} → statement M
 put-short-number-spec =

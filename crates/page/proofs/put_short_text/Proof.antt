@@ -2,8 +2,8 @@
 use mathlib.Core.Path.{◌≡◌, sym, ap}
 use native.Mathlib.Omega.{arith}
 use lib.ListN.{take}
-use Rattle.page.specs.Packed.{low_bytes, numberMade}
-use Rattle.page.proofs.Packed.{packed-first}
+use Rattle.page.specs.Packed.{low_bytes, number_made}
+use Rattle.page.proofs.Packed.{packed_first}
 use Rattle.page.proofs.Pages.{laid_as}
 use borrow.Author.Rules.{rules}
 use Rattle.page.proofs.put_short_text.Statement.{statement}
@@ -26,8 +26,8 @@ returns c =
     let words = c.before.before.before.before.before.before.before.before.args.words.now in
     let piece = c.before.before.before.before.piece_of in
     let count = c.before.before.before.at_most in
-    let put : take 8 words ≡ low_bytes count.result piece.result = rw (count.ensures, piece.ensures.0) (packed-first words piece.ensures.1) in
-    let stored : low_bytes 8 (numberMade (take 8 words)) ≡ low_bytes 8 piece.result = ap (low_bytes 8) (sym piece.ensures.0) in
+    let put : take 8 words ≡ low_bytes count.result piece.result = rw (count.ensures, piece.ensures.0) (packed_first words piece.ensures.1) in
+    let stored : low_bytes 8 (number_made (take 8 words)) ≡ low_bytes 8 piece.result = ap (low_bytes 8) (sym piece.ensures.0) in
     laid_as put stored (omega (arith, count.ensures)) c.before.before.put-piece.ensures
 
 pub put-short-text-spec : {M : Type 1} → statement M

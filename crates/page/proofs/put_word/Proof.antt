@@ -6,8 +6,8 @@ use native.Mathlib.Omega.{arith}
 use lib.ListN.{length, take, length-append}
 use borrow.Author.Tests.{leb-true}
 use Rattle.page.specs.Packed.{low_bytes}
-use Rattle.page.specs.Words.{bytesOfWord}
-use Rattle.page.proofs.Pages.{paged-as, paged-most, paged-stored, sets-twice, take_min, laid-room, laid-full}
+use Rattle.page.specs.Words.{bytes_of_word}
+use Rattle.page.proofs.Pages.{paged_as, paged-most, paged-stored, sets-twice, take_min, laid_room, laid_full}
 use Rattle.page.proofs.Packed.{low-length}
 use borrow.Author.Rules.{rules}
 use Rattle.page.proofs.put_word.Statement.{statement}
@@ -35,7 +35,7 @@ same_length : tie.Need-same-length
 same_length c = search rules
 
 returns : tie.Need-returns
-unfolding bytesOfWord
+unfolding bytes_of_word
 returns c =
     let start = c.before.before.before.before.before.before.before.before.before.before.before.before in
     let page = start.args.page.now in
@@ -47,11 +47,11 @@ returns c =
     let same = sets-twice page start.args.at (low_bytes 8 word.low) (low_bytes 8 word.high) c.before.before.before.before.before.before.before.put-eight.ensures (omega arith) c.before.before.before.put-eight2.ensures in
     let few = c.at_most.ensures in
     let shown : take word.count stored ≡ take c.at_most.result stored = sym (ap (λ n. take n stored) few ∙ take_min word.count 16 stored both) in
-    laid-room room same
-    (paged-most (omega (arith, few)) (paged-as shown (paged-stored page start.args.at stored c.at_most.result (omega (arith, leb-true (start.args.at + 16) (length start.args.page.now) room)) (omega (arith, few)) same)))
+    laid_room room same
+    (paged-most (omega (arith, few)) (paged_as shown (paged-stored page start.args.at stored c.at_most.result (omega (arith, leb-true (start.args.at + 16) (length start.args.page.now) room)) (omega (arith, few)) same)))
 
 returns-2 : tie.Need-returns-2
-returns-2 c = laid-full (sym c.before.has_room.ensures ∙ c.if1.false)
+returns-2 c = laid_full (sym c.before.has_room.ensures ∙ c.if1.false)
 
 pub put-word-spec : {M : Type 1} → statement M
 put-word-spec =

@@ -1,6 +1,6 @@
 -- `word_of`: the first eight bytes, the next eight, and how many there are.
 use mathlib.Core.Path.{refl}
-use Rattle.page.specs.Words.{packedWord}
+use Rattle.page.specs.Words.{packed_word}
 use borrow.Author.Rules.{rules}
 use Rattle.page.proofs.word_of.Statement.{statement}
 use Rattle.page.proofs.word_of.Tie as tie
@@ -15,7 +15,7 @@ at-most-requires : tie.Need-at-most-requires
 at-most-requires c κs = search rules
 
 returns : tie.Need-returns
-unfolding packedWord
+unfolding packed_word
 returns c = rw (c.before.before.piece_of.ensures.0, c.before.piece-of2.ensures.0, c.at_most.ensures) refl
 
 pub word-of-spec : {M : Type 1} → statement M

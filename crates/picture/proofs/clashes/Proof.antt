@@ -3,19 +3,19 @@ use Prim.Native.Nat.{◌-◌, ◌<◌, ◌≤◌}
 use mathlib.Core.Path.{◌≡◌, sym, ◌∙◌}
 use borrow.Author.Rules.{rules}
 use Rattle.kit.specs.Loops.{any}
-use Rattle.kit.proofs.Loops.{scan-go, scan-hit, scan-end}
-use Rattle.condition.specs.Slots.{slotCount}
-use Rattle.picture.specs.Pictures.{isTwice, clashes}
-use Rattle.memory.specs.Memory.{setIn}
+use Rattle.kit.proofs.Loops.{scan-go, scan_hit, scan-end}
+use Rattle.condition.specs.Slots.{slot_count}
+use Rattle.picture.specs.Pictures.{is_twice, clashes}
+use Rattle.memory.specs.Memory.{set_in}
 use Rattle.picture.proofs.Lent.{number_at, Seen, seen_none, seen_more, twice-flag}
 use Rattle.picture.proofs.clashes.Statement.{statement}
 use Rattle.picture.proofs.clashes.Tie as tie
 
 abbrev invariant-loop : tie.invariant-loop
-invariant-loop memory seen₀ i₀ seen i = (i ≤ slotCount) × (clashes (setIn memory) ≡ any (isTwice (setIn memory)) i (slotCount - i)) × Seen memory i seen
+invariant-loop memory seen₀ i₀ seen i = (i ≤ slot_count) × (clashes (set_in memory) ≡ any (is_twice (set_in memory)) i (slot_count - i)) × Seen memory i seen
 
 abbrev decreases-loop : tie.decreases-loop
-decreases-loop memory seen₀ i₀ seen i = slotCount - i
+decreases-loop memory seen₀ i₀ seen i = slot_count - i
 
 loop-holds : tie.Need-loop-init invariant-loop decreases-loop
 unfolding clashes
@@ -49,11 +49,11 @@ returns : tie.Need-returns invariant-loop decreases-loop
 returns c =
     let l = c.before.before.before.before.before.before in
     let memory = l.before.args.memory.now in
-    let p : l.loop.i < slotCount = search rules in
+    let p : l.loop.i < slot_count = search rules in
     let small : number_at memory l.loop.i < 256 = c.before.is_seen.ensures.1 in
     sym
     (l.loop.invariant.1
-    ∙ scan-hit (isTwice (setIn memory)) _ _ slotCount l.loop.i p
+    ∙ scan_hit (is_twice (set_in memory)) _ _ slot_count l.loop.i p
     (twice-flag memory l.loop.i l.loop.seen small l.loop.invariant.2 p ∙ (sym c.before.is_seen.ensures.0 ∙ c.if1.true)))
 
 see-requires : tie.Need-see-requires invariant-loop decreases-loop
@@ -69,17 +69,17 @@ loop-again : tie.Need-loop-preserved invariant-loop decreases-loop
 loop-again c =
     let l = c.before.before.before.before.before.before.before.before in
     let memory = l.before.args.memory.now in
-    let p : l.loop.i < slotCount = search rules in
+    let p : l.loop.i < slot_count = search rules in
     let small : number_at memory l.loop.i < 256 = c.before.before.before.is_seen.ensures.1 in (
       search rules,
       l.loop.invariant.1
-          ∙ scan-go (isTwice (setIn memory)) _ _ slotCount l.loop.i p
+          ∙ scan-go (is_twice (set_in memory)) _ _ slot_count l.loop.i p
           (twice-flag memory l.loop.i l.loop.seen small l.loop.invariant.2 p ∙ (sym c.before.before.before.is_seen.ensures.0 ∙ c.before.before.if1.false)),
       seen_more memory l.loop.i l.loop.seen small l.loop.invariant.2 _ c.see.ensures,
     )
 
 returns-2 : tie.Need-returns-2 invariant-loop decreases-loop
-returns-2 c = let l = c.before.loop in sym (l.invariant.1 ∙ scan-end _ _ _ slotCount l.i (search rules))
+returns-2 c = let l = c.before.loop in sym (l.invariant.1 ∙ scan-end _ _ _ slot_count l.i (search rules))
 
 pub clashes-spec : {M : Type 1} → statement M
 clashes-spec =

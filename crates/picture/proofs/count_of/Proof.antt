@@ -4,21 +4,21 @@ use mathlib.Core.List.{List}
 use mathlib.Core.Path.{◌≡◌, sym, ap, ◌∙◌}
 use native.Mathlib.Omega.{arith}
 use borrow.Author.Rules.{rules}
-use Rattle.kit.specs.Loops.{howMany}
+use Rattle.kit.specs.Loops.{how_many}
 use Rattle.kit.proofs.Loops.{count_turn, count_none, count_most}
-use Rattle.condition.specs.Slots.{slotCount}
+use Rattle.condition.specs.Slots.{slot_count}
 use Rattle.picture.proofs.Lent.{holds, count-bytes}
 use Rattle.picture.proofs.count_of.Statement.{statement}
 use Rattle.picture.proofs.count_of.Tie as tie
 
 abbrev count_to : List ℕ → ℕ → ℕ
-count_to memory n = howMany (holds memory) n
+count_to memory n = how_many (holds memory) n
 
 abbrev invariant-loop : tie.invariant-loop
-invariant-loop memory count₀ i₀ howMany i = (i ≤ slotCount) × (howMany ≡ count_to memory i) × (howMany ≤ i)
+invariant-loop memory count₀ i₀ how_many i = (i ≤ slot_count) × (how_many ≡ count_to memory i) × (how_many ≤ i)
 
 abbrev decreases-loop : tie.decreases-loop
-decreases-loop memory count₀ i₀ howMany i = slotCount - i
+decreases-loop memory count₀ i₀ how_many i = slot_count - i
 
 loop-holds : tie.Need-loop-init invariant-loop decreases-loop
 loop-holds c = (search rules, sym (count_none (holds c.args.memory.now)), search rules)
@@ -55,8 +55,8 @@ returns : tie.Need-returns invariant-loop decreases-loop
 returns c =
     let l = c.before.loop in
     let memory = c.before.before.args.memory.now in
-    let past : slotCount ≤ l.i = search rules in
-    let all : l.i ≡ slotCount = omega (arith, l.invariant.0) in
+    let past : slot_count ≤ l.i = search rules in
+    let all : l.i ≡ slot_count = omega (arith, l.invariant.0) in
     l.invariant.1 ∙ (ap (count_to memory) all ∙ sym (count-bytes memory))
 
 pub count-of-spec : {M : Type 1} → statement M

@@ -5,9 +5,9 @@ use lib.ListN.{length}
 use native.Mathlib.Omega.{arith}
 use borrow.Author.Rules.{rules}
 use Rattle.kit.specs.Fill.{Filled}
-use Rattle.kit.proofs.Fill.{mapped-none, mapped-more, mapped-all}
-use Rattle.condition.specs.Slots.{slotCount}
-use Rattle.places.specs.Places.{freePlace, ordersOf}
+use Rattle.kit.proofs.Fill.{mapped_none, mapped_more, mapped_all}
+use Rattle.condition.specs.Slots.{slot_count}
+use Rattle.places.specs.Places.{free_place, orders_of}
 use Rattle.places.specs.declared.Place.{Place}
 use Rattle.places.proofs.orders_of.Statement.{statement}
 use Rattle.places.proofs.orders_of.Tie as tie
@@ -16,15 +16,15 @@ abbrev order : Place → ℕ
 order place = place.order
 
 abbrev invariant-loop : tie.invariant-loop
-invariant-loop places orders₀ i₀ orders i = (i ≤ slotCount) × Filled 0 (ordersOf places) i orders
+invariant-loop places orders₀ i₀ orders i = (i ≤ slot_count) × Filled 0 (orders_of places) i orders
 
 abbrev decreases-loop : tie.decreases-loop
-decreases-loop places orders₀ i₀ orders i = slotCount - i
+decreases-loop places orders₀ i₀ orders i = slot_count - i
 
 loop-holds : tie.Need-loop-init invariant-loop decreases-loop
 loop-holds c =
-    let twenty : length c.args.t1 ≡ slotCount = c.well-formed.0.1.0.1 in
-    (search rules, mapped-none order c.args.t1 (sym twenty))
+    let twenty : length c.args.t1 ≡ slot_count = c.well-formed.0.1.0.1 in
+    (search rules, mapped_none order c.args.t1 (sym twenty))
 
 mul-orders : tie.Need-overflow-mul-orders invariant-loop decreases-loop
 mul-orders c = search rules
@@ -48,17 +48,17 @@ loop-again : tie.Need-loop-preserved invariant-loop decreases-loop
 loop-again c =
     let l = c.before.loop in
     let start = c.before.before in
-    let twenty : length start.args.t1 ≡ slotCount = start.well-formed.0.1.0.1 in
-    let p : l.i < slotCount = search rules in
-    (search rules, mapped-more order start.args.t1 freePlace (omega (arith, twenty)) l.invariant.1 refl)
+    let twenty : length start.args.t1 ≡ slot_count = start.well-formed.0.1.0.1 in
+    let p : l.i < slot_count = search rules in
+    (search rules, mapped_more order start.args.t1 free_place (omega (arith, twenty)) l.invariant.1 refl)
 
 returns : tie.Need-returns invariant-loop decreases-loop
 returns c =
     let l = c.before.loop in
     let start = c.before.before in
-    let twenty : length start.args.t1 ≡ slotCount = start.well-formed.0.1.0.1 in
-    let past : slotCount ≤ l.i = search rules in
-    mapped-all order start.args.t1 (omega (arith, twenty)) l.invariant.1
+    let twenty : length start.args.t1 ≡ slot_count = start.well-formed.0.1.0.1 in
+    let past : slot_count ≤ l.i = search rules in
+    mapped_all order start.args.t1 (omega (arith, twenty)) l.invariant.1
 
 pub orders-of-spec : {M : Type 1} → statement M
 orders-of-spec =

@@ -8,14 +8,14 @@ use native.Mathlib.Omega.{arith}
 use borrow.Author.Rules.{rules}
 use Rattle.kit.specs.Loops.{any}
 use Rattle.kit.proofs.Cases.{on}
-use Rattle.kit.proofs.Loops.{scan-go, scan-hit, scan-end}
-use Rattle.resting.specs.Rests.{restsBy, isResting, endedAt}
+use Rattle.kit.proofs.Loops.{scan-go, scan_hit, scan-end}
+use Rattle.resting.specs.Rests.{rests_by, is_resting, ended_at}
 use Rattle.resting.specs.declared.Ended.{Ended}
 use Rattle.resting.proofs.is_resting.Statement.{statement}
 use Rattle.resting.proofs.is_resting.Tie as tie
 
 abbrev by : ℕ → ℕ → ℕ → List Ended → ℕ → Bool
-by rest step number ended i = restsBy rest step number (endedAt ended i)
+by rest step number ended i = rests_by rest step number (ended_at ended i)
 
 -- one entry more, before those that were looked at
 more : (test : ℕ → Bool) (k : ℕ) (one rests next : Bool) → k < 160 → one ≡ test k → rests ≡ any test (k + 1) (160 - (k + 1)) → next ≡ cond one true rests
@@ -23,7 +23,7 @@ more : (test : ℕ → Bool) (k : ℕ) (one rests next : Bool) → k < 160 → o
 more test k one rests next p e f g =
     g
     ∙ on (test k)
-    (λ t. rw (e, t) (sym (scan-hit test (λ i. true) false 160 k p t)))
+    (λ t. rw (e, t) (sym (scan_hit test (λ i. true) false 160 k p t)))
     (λ t. rw (e, t) (f ∙ sym (scan-go test (λ i. true) false 160 k p t)))
 
 abbrev invariant-loop : tie.invariant-loop
@@ -67,7 +67,7 @@ loop-again c =
     )
 
 returns : tie.Need-returns invariant-loop decreases-loop
-unfolding isResting
+unfolding is_resting
 returns c =
     let l = c.before.loop in
     let start = c.before.before in

@@ -7,15 +7,15 @@ use borrow.Author.Rules.{part_to_end}
 use native.Mathlib.Omega.{arith}
 use borrow.Author.Rules.{rules}
 use Rattle.kit.proofs.Put.{poured-length}
-use Rattle.frames.proofs.Splitting.{size-bounds}
-use Rattle.frames.proofs.Pouring.{Pouring, pouring-start, pouring-more, pouring-end, pouring-last, pouring-as, pouring-length}
-use Rattle.signal_runs.specs.Runs.{noTelegram, signalLinesWith, signalLines}
+use Rattle.frames.proofs.Splitting.{size_bounds}
+use Rattle.frames.proofs.Pouring.{Pouring, pouring_start, pouring_more, pouring_end, pouring_last, pouring_as, pouring_length}
+use Rattle.signal_runs.specs.Runs.{no_telegram, signal_lines_with, signal_lines}
 use Rattle.signal_runs.proofs.Lines.{lines_more, lines-short, lines_end}
 use Rattle.signal_runs.proofs.read.Statement.{statement}
 use Rattle.signal_runs.proofs.read.Tie as tie
 
 abbrev invariant-loop : tie.invariant-loop
-invariant-loop input lines₀ signals₀ rest₀ at₀ lines signals rest at = Pouring lines₀ (signalLines input) lines at (signalLinesWith signals rest)
+invariant-loop input lines₀ signals₀ rest₀ at₀ lines signals rest at = Pouring lines₀ (signal_lines input) lines at (signal_lines_with signals rest)
 
 abbrev decreases-loop : tie.decreases-loop
 decreases-loop input lines₀ signals₀ rest₀ at₀ lines signals rest at = length rest
@@ -24,8 +24,8 @@ fresh-requires : tie.Need-fresh-requires invariant-loop decreases-loop
 fresh-requires c κs = search rules
 
 loop-holds : tie.Need-loop-init invariant-loop decreases-loop
-unfolding signalLines
-loop-holds c = pouring-as (ap (λ s. signalLinesWith s c.before.before.before.args.input.now) (sym c.fresh.ensures)) pouring-start
+unfolding signal_lines
+loop-holds c = pouring_as (ap (λ s. signal_lines_with s c.before.before.before.args.input.now) (sym c.fresh.ensures)) pouring_start
 
 cast-call-size : tie.Need-overflow-cast-call-size invariant-loop decreases-loop
 cast-call-size c = search rules
@@ -37,35 +37,35 @@ put-short-requires : tie.Need-put-short-requires invariant-loop decreases-loop
 put-short-requires c κs = search rules
 
 same_length : tie.Need-same-length invariant-loop decreases-loop
-same_length c = poured-length c.before.before.put-short.ensures ∙ pouring-length c.before.before.before.before.before.before.before.loop.invariant
+same_length c = poured-length c.before.before.put-short.ensures ∙ pouring_length c.before.before.before.before.before.before.before.loop.invariant
 
 returns : tie.Need-returns invariant-loop decreases-loop
 returns c =
     let l = c.before.before.before.before.before.before.before.loop in
     let size = c.before.before.before.before.before.call-size in
     let none = c.before.before.before.before.if1.true in
-    pouring-end (pouring-as (lines-short l.signals l.rest.now size.result size.ensures none (search rules)) l.invariant) c.before.before.put-short.ensures
+    pouring_end (pouring_as (lines-short l.signals l.rest.now size.result size.ensures none (search rules)) l.invariant) c.before.before.put-short.ensures
 
 word-at-requires : tie.Need-word-at-requires invariant-loop decreases-loop
 word-at-requires c κs = search rules
 
 sub-tell : tie.Need-overflow-sub-tell invariant-loop decreases-loop
-sub-tell c = omega (arith, size-bounds noTelegram c.before.before.before.before.loop.rest.now c.before.before.call-size.result c.before.before.call-size.ensures (search rules))
+sub-tell c = omega (arith, size_bounds no_telegram c.before.before.before.before.loop.rest.now c.before.before.call-size.result c.before.before.call-size.ensures (search rules))
 
 part-tell-start : tie.Need-slice-bounds-tell-start invariant-loop decreases-loop
-part-tell-start c = omega (arith, size-bounds noTelegram c.before.before.before.before.loop.rest.now c.before.before.call-size.result c.before.before.call-size.ensures (search rules))
+part-tell-start c = omega (arith, size_bounds no_telegram c.before.before.before.before.loop.rest.now c.before.before.call-size.result c.before.before.call-size.ensures (search rules))
 
 part-tell-end : tie.Need-slice-bounds-tell-end invariant-loop decreases-loop
-part-tell-end c = (size-bounds noTelegram c.before.before.before.before.loop.rest.now c.before.before.call-size.result c.before.before.call-size.ensures (search rules)).1
+part-tell-end c = (size_bounds no_telegram c.before.before.before.before.loop.rest.now c.before.before.call-size.result c.before.before.call-size.ensures (search rules)).1
 
 tell-requires : tie.Need-tell-requires invariant-loop decreases-loop
 tell-requires c κs = search rules
 
 sub-rest : tie.Need-overflow-sub-rest invariant-loop decreases-loop
-sub-rest c = (size-bounds noTelegram c.before.before.before.before.before.before.before.before.before.before.loop.rest.now c.before.before.before.before.before.before.before.before.call-size.result c.before.before.before.before.before.before.before.before.call-size.ensures (search rules)).1
+sub-rest c = (size_bounds no_telegram c.before.before.before.before.before.before.before.before.before.before.loop.rest.now c.before.before.before.before.before.before.before.before.call-size.result c.before.before.before.before.before.before.before.before.call-size.ensures (search rules)).1
 
 part-rest-start : tie.Need-slice-bounds-rest-start invariant-loop decreases-loop
-part-rest-start c = (size-bounds noTelegram c.before.before.before.before.before.before.before.before.before.before.loop.rest.now c.before.before.before.before.before.before.before.before.call-size.result c.before.before.before.before.before.before.before.before.call-size.ensures (search rules)).1
+part-rest-start c = (size_bounds no_telegram c.before.before.before.before.before.before.before.before.before.before.loop.rest.now c.before.before.before.before.before.before.before.before.call-size.result c.before.before.before.before.before.before.before.before.call-size.ensures (search rules)).1
 
 part-rest-end : tie.Need-slice-bounds-rest-end invariant-loop decreases-loop
 part-rest-end c = search rules
@@ -81,16 +81,16 @@ loop-again c =
     let told = c.before.before.before.before.tell in
     let rest : List ℕ = l.rest.now in
     let bytes : List ℕ = take (size.result - 2) (drop 2 rest) in
-    pouring-as (ap₂ signalLinesWith (sym told.ensures.0) (sym (part_to_end rest size.result)))
-    (pouring-more (pouring-as (lines_more l.signals rest size.result size.ensures (word.result, bytes) (search rules) (ap (λ w. (w, bytes)) (sym word.ensures))) l.invariant) told.ensures.1)
+    pouring_as (ap₂ signal_lines_with (sym told.ensures.0) (sym (part_to_end rest size.result)))
+    (pouring_more (pouring_as (lines_more l.signals rest size.result size.ensures (word.result, bytes) (search rules) (ap (λ w. (w, bytes)) (sym word.ensures))) l.invariant) told.ensures.1)
 
 same-length-2 : tie.Need-same-length-2 invariant-loop decreases-loop
-same-length-2 c = pouring-length c.before.loop.invariant
+same-length-2 c = pouring_length c.before.loop.invariant
 
 returns-2 : tie.Need-returns-2 invariant-loop decreases-loop
 returns-2 c =
     let l = c.before.loop in
-    pouring-last (pouring-as (lines_end l.signals l.rest.now (search rules)) l.invariant)
+    pouring_last (pouring_as (lines_end l.signals l.rest.now (search rules)) l.invariant)
 
 pub read_spec : {M : Type 1} → statement M
 read_spec =

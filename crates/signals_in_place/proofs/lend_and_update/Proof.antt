@@ -45,7 +45,7 @@ use denote.Triple.Table.{entered, cited}
 use denote.Triple.Walked.{says, Stays, stay_none, stay_none_slice, walk_of, Goes-none, Goes-none_slice, Walks, ends_at, walked, walk_Meets}
 use denote.Exit.{yes}
 use Rattle.signals.specs.Answers.{noted_of, Updating}
-use Rattle.signals.specs.Signals.{updateOf}
+use Rattle.signals.specs.Signals.{update_of}
 use Rattle.signals.specs.declared.Signals.{Signals}
 use Rattle.signals.specs.declared.Updated.{Updated}
 use Rattle.signals.specs.declared.Answer.{Answer}
@@ -58,7 +58,7 @@ use Rattle.signals.proofs.Answer.TheLaws as SaidLaws
 use Rattle.signals_in_place.specs.contracts.update as place
 use Rattle.signals_in_place.proofs.update.Symbol as place-def
 use Rattle.signals_in_place.proofs.update.Met as place-thm
-use Rattle.signals_in_place.proofs.Machine.{held-value, held-values, both-value, both_of, knows_both}
+use Rattle.signals_in_place.proofs.Machine.{held-value, held_values, both-value, both_of, knows_both}
 use Rattle.signals_in_place.specs.contracts.lend_and_update.Key as key
 use Rattle.signals_in_place.specs.contracts.lend_and_update as here
 use Rattle.signals_in_place.proofs.lend_and_update.Statement as stated
@@ -74,16 +74,16 @@ Place 𝓛 mem run = triple_of 𝓛 place.signature (place.spec 𝓛 mem run)
 
 module _ {M : Type 1} {𝓤 : Ura M} (𝓛 : Logic 𝓤) where
   -- a local's cell and what the record owns are what a loan takes, and what it gives back
-  cell_in : (y : Signals) (l : ℕ) → ent 𝓤 (sep 𝓤 (sem 𝓛 (fat full_share HeldLaws.mir l 0 (held-value y))) (sem 𝓛 ((Held.the_row).own_val y (held-values y)))) (sem 𝓛 (part_at Held.the_row full_share y l 0))
+  cell_in : (y : Signals) (l : ℕ) → ent 𝓤 (sep 𝓤 (sem 𝓛 (fat full_share HeldLaws.mir l 0 (held-value y))) (sem 𝓛 ((Held.the_row).own_val y (held_values y)))) (sem 𝓛 (part_at Held.the_row full_share y l 0))
   unfolding part_of
   cell_in y l =
-      qed 𝓛 (‵ (fat full_share HeldLaws.mir l 0 (held-value y)) ∷ ‵ ((Held.the_row).own_val y (held-values y)) ∷ []) ∵ use1 𝓛 (‵ (cell_at full_share (Held.the_row).mir (held-values y) l 0)) (𝓛.laws.at_raw full_share HeldLaws.mir l 0 (held-value y)) $
-      fjoin ! $ fpack ! (List Val) (λ us. fsep (cell_at full_share (Held.the_row).mir us l 0) ((Held.the_row).own_val y us)) (held-values y) $ done !
+      qed 𝓛 (‵ (fat full_share HeldLaws.mir l 0 (held-value y)) ∷ ‵ ((Held.the_row).own_val y (held_values y)) ∷ []) ∵ use1 𝓛 (‵ (cell_at full_share (Held.the_row).mir (held_values y) l 0)) (𝓛.laws.at_raw full_share HeldLaws.mir l 0 (held-value y)) $
+      fjoin ! $ fpack ! (List Val) (λ us. fsep (cell_at full_share (Held.the_row).mir us l 0) ((Held.the_row).own_val y us)) (held_values y) $ done !
 
-  cell_out : (y : Signals) (l : ℕ) → ent 𝓤 (sem 𝓛 (part_at Held.the_row full_share y l 0)) (sep 𝓤 (sem 𝓛 (fat full_share HeldLaws.mir l 0 (held-value y))) (sem 𝓛 ((Held.the_row).own_val y (held-values y))))
+  cell_out : (y : Signals) (l : ℕ) → ent 𝓤 (sem 𝓛 (part_at Held.the_row full_share y l 0)) (sep 𝓤 (sem 𝓛 (fat full_share HeldLaws.mir l 0 (held-value y))) (sem 𝓛 ((Held.the_row).own_val y (held_values y))))
   unfolding part_of
   cell_out y l =
-      qed 𝓛 (‵ (part_at Held.the_row full_share y l 0) ∷ []) ∵ fpick ! (λ vs. fsplit ! $ spelt ! Held.the_row (Is Held.the_row) (shows 𝓛 Held.the_row) held-values (StructLaws.tells Held.the_type HeldLaws.the_laws) full_share y vs l 0 $
+      qed 𝓛 (‵ (part_at Held.the_row full_share y l 0) ∷ []) ∵ fpick ! (λ vs. fsplit ! $ spelt ! Held.the_row (Is Held.the_row) (shows 𝓛 Held.the_row) held_values (StructLaws.tells Held.the_type HeldLaws.the_laws) full_share y vs l 0 $
       use1 𝓛 (‵ (fat full_share HeldLaws.mir l 0 (held-value y))) (𝓛.laws.raw_at full_share HeldLaws.mir l 0 (held-value y)) $ frame ! $ done !)
 
 module _ {M : Type 1} {𝓤 : Ura M} (𝓛 : Logic 𝓤) (at_mem : Memory → SProp 𝓤) (run : Routine → Fun 𝓤) (κ : Lft) (q : Share) (held : Signals) (present : Bool) (telegram : Bor (List ℕ)) where
@@ -98,10 +98,10 @@ module _ {M : Type 1} {𝓤 : Ura M} (𝓛 : Logic 𝓤) (at_mem : Memory → SP
   args-here = (held, (present, (telegram, tt)))
 
   abbrev values : List Val × (List Val × (List Val × Unit {0}))
-  values = (held-values held, (vbool present ∷ [], (slice ∷ [], tt)))
+  values = (held_values held, (vbool present ∷ [], (slice ∷ [], tt)))
 
   abbrev next : Updating
-  next = updateOf held present telegram.now
+  next = update_of held present telegram.now
 
   abbrev Post : Val → SProp 𝓤
   Post = (walk_of 𝓛 here.ended stayed (here.clauses 𝓛 at_mem run)).post (((κ, tt), (q, tt), tt, args-here, values), tt)
@@ -127,7 +127,7 @@ module _ {M : Type 1} {𝓤 : Ura M} (𝓛 : Logic 𝓤) (at_mem : Memory → SP
       owned ! bool (Is bool) (bool_Makes 𝓛) present _ refl $ fjoin ! $ move ! (2 ∷ 0 ∷ []) $ fjoin ! $ move ! (1 ∷ 0 ∷ []) $ join ! $ frame ! $ done !
 
   -- the exit: what is returned is the definition's
-  exits : (r : Answer) (y : Signals) → (noted_of r ≡ next.noted) × (y ≡ next.signals) → Is Held.the_row held (held-values held) → Is Both.the_row (both_of r y) (StructLaws.vals Both.the_type BothLaws.the_laws (both_of r y))
+  exits : (r : Answer) (y : Signals) → (noted_of r ≡ next.noted) × (y ≡ next.signals) → Is Held.the_row held (held_values held) → Is Both.the_row (both_of r y) (StructLaws.vals Both.the_type BothLaws.the_laws (both_of r y))
       → ent 𝓤 (⋆ 𝓛 ((‵ (flft κ q) ⊛ ‵ ftrue) ∷ ‵ Own ∷ [])) (Post (both-value (both_of r y)))
   exits r y e was is =
       qed 𝓛 ((‵ (flft κ q) ⊛ ‵ ftrue) ∷ ‵ Own ∷ []) ∵
@@ -136,7 +136,7 @@ module _ {M : Type 1} {𝓤 : Ura M} (𝓛 : Logic 𝓤) (at_mem : Memory → SP
       owned ! Held.the_row (Is Held.the_row) (StructLaws.makes Held.the_type HeldLaws.the_plain 𝓛) held _ was $ fjoin ! $ frame ! $ owned ! Both.the_row (Is Both.the_row) (StructLaws.makes Both.the_type BothLaws.the_plain 𝓛) (both_of r y) _ is $ done !
 
   module _ (C : Calls 𝓤 H) (Λ : Loops 𝓤 H) (fm : FmC 𝓤 H 𝓛.laws C) (known : Triple 𝓤 (C place-def.name) (Place 𝓛 at_mem run)) where
-    walk : Is Held.the_row held (held-values held) → Is (ShrSlice (named 0) κ u8) telegram (slice ∷ []) → ent 𝓤 (on_entry 𝓛 here.signature (κ, tt) (q, tt) args-here values) (WpFn 𝓤 H C Λ code.function (held-value held ∷ vbool present ∷ slice ∷ []) Post)
+    walk : Is Held.the_row held (held_values held) → Is (ShrSlice (named 0) κ u8) telegram (slice ∷ []) → ent 𝓤 (on_entry 𝓛 here.signature (κ, tt) (q, tt) args-here values) (WpFn 𝓤 H C Λ code.function (held-value held ∷ vbool present ∷ slice ∷ []) Post)
     walk was sl =
         qed 𝓛 ((‵ (flft κ q) ⊛ ‵ ftrue) ∷ ‵ (owns (Held.the_row ∷ bool ∷ ShrSlice (named 0) κ u8 ∷ []) args-here values) ∷ []) ∵ enter ! C Λ code.function (held-value held ∷ vbool present ∷ slice ∷ []) _ $
         -- room for the locals, and the parameters in it
@@ -165,8 +165,8 @@ module _ {M : Type 1} {𝓤 : Ura M} (𝓛 : Logic 𝓤) (at_mem : Memory → SP
         land ! (from ! (stop !)) (init ! 9 refl ((EnumLaws.lawful Said.the_type SaidLaws.the_laws 𝓛 tt).typed r _ is).0) $ drop ! $ rewrite ! 8 (λ (z : Val). ‵ (fat full_share SaidLaws.mir l₅ 0 z)) (ap only (EnumLaws.tells Said.the_type SaidLaws.the_laws r _ is)) refl $
         -- the lifetime is ended, and the local comes back at that record
         split ! $ lft_end ! tt $ move ! (0 ∷ 3 ∷ 2 ∷ []) $ use3 𝓛 (later (‵ (part_at Held.the_row full_share zs.0 l₄ 0))) (ref_back 𝓛 Held.the_row (ν ∷ []) δ zs.0 l₄ 0) $ await ! tt $
-        use1 𝓛 (‵ (fat full_share HeldLaws.mir l₄ 0 (held-value zs.0)) ⊛ ‵ ((Held.the_row).own_val zs.0 (held-values zs.0))) (cell_out 𝓛 zs.0 l₄) $ split ! $ move ! (1 ∷ []) $
-        peeks ! Held.the_row (Is Held.the_row) (shows 𝓛 Held.the_row) zs.0 (held-values zs.0) (λ now-is. drop ! $
+        use1 𝓛 (‵ (fat full_share HeldLaws.mir l₄ 0 (held-value zs.0)) ⊛ ‵ ((Held.the_row).own_val zs.0 (held_values zs.0))) (cell_out 𝓛 zs.0 l₄) $ split ! $ move ! (1 ∷ []) $
+        peeks ! Held.the_row (Is Held.the_row) (shows 𝓛 Held.the_row) zs.0 (held_values zs.0) (λ now-is. drop ! $
         -- [_4; κ's token; the slice's; _7; …; _6; …; _5; …; what frees _4; _3; …; _2; …; _1; …; room for _0; …]
         -- `_7 = _4`, then `_0 = Updated { _5, _7 }`
         assigns ! (of_opd ! (load ! (from ! (stop !)) (look ! 0 refl))) (from ! (stop !)) (init ! 3 refl ((StructLaws.lawful Held.the_type HeldLaws.the_laws 𝓛).typed zs.0 _ now-is).0) $
@@ -182,7 +182,7 @@ module _ {M : Type 1} {𝓤 : Ura M} (𝓛 : Logic 𝓤) (mem : Memory → SProp
 
   here-walks : (C : Calls 𝓤 H) (Λ : Loops 𝓤 H) → FmC 𝓤 H 𝓛.laws C → Triple 𝓤 (C place-def.name) (Place 𝓛 mem run)
       → Walks 𝓛 here.ended stayed (WpFn 𝓤 H C Λ code.function) (here.clauses 𝓛 mem run)
-  here-walks C Λ fm known = walked 𝓛 here.ended stayed (here.clauses 𝓛 mem run) (WpFn 𝓤 H C Λ code.function) (λ κs. (held-values, (bool_vals, (shr_slice_vals, tt)))) (λ κs. (StructLaws.tells Held.the_type HeldLaws.the_laws, (bool_Tells, (shr_slice_Tells (named 0) κs.0 u8, tt))))
+  here-walks C Λ fm known = walked 𝓛 here.ended stayed (here.clauses 𝓛 mem run) (WpFn 𝓤 H C Λ code.function) (λ κs. (held_values, (bool_vals, (shr_slice_vals, tt)))) (λ κs. (StructLaws.tells Held.the_type HeldLaws.the_laws, (bool_Tells, (shr_slice_Tells (named 0) κs.0 u8, tt))))
       (λ κs qs bounds a g are. via 𝓤 _ (fst∗ 𝓤 _ (emp 𝓤)) (walk 𝓛 mem run κs.0 qs.0 a.0 a.1.0 a.1.1.0 C Λ fm known are.0 are.1.1.0))
 
 here-meets : {M : Type 1} {𝓤 : Ura M} (𝓛 : Logic 𝓤) (mem : Memory → SProp 𝓤) (run : Routine → Fun 𝓤) (𝓣 : Tables 𝓤 𝓛.H)

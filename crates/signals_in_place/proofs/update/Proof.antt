@@ -44,8 +44,8 @@ use denote.Triple.Spec.{Meets, triple_of}
 use denote.Triple.Table.{entered, cited}
 use denote.Triple.Walked.{says, Stays, stay_ref, stay_none, stay_none_slice, walk_of, Goes-ref, Goes-none, Goes-none_slice, Walks, ends_at, walked, walk_Meets}
 use denote.Exit.{yes}
-use Rattle.signals.specs.Answers.{Updating, updatingOf}
-use Rattle.signals.specs.Signals.{updateOf}
+use Rattle.signals.specs.Answers.{Updating, updating_of}
+use Rattle.signals.specs.Signals.{update_of}
 use Rattle.signals.specs.declared.Signals.{Signals}
 use Rattle.signals.specs.declared.Updated.{Updated}
 use Rattle.signals.specs.declared.Answer.{Answer}
@@ -58,7 +58,7 @@ use Rattle.signals.proofs.Answer.TheLaws as SaidLaws
 use Rattle.signals.specs.contracts.Signals.update as update
 use Rattle.signals.proofs.Signals.update.Symbol as update-def
 use Rattle.signals.proofs.Signals.update.Met as update-thm
-use Rattle.signals_in_place.proofs.Machine.{held-values, answer-value, knows-answer, knows-held}
+use Rattle.signals_in_place.proofs.Machine.{held_values, answer-value, knows_answer, knows_held}
 use Rattle.signals_in_place.specs.contracts.update.Key as key
 use Rattle.signals_in_place.specs.contracts.update as here
 use Rattle.signals_in_place.proofs.update.Statement as stated
@@ -98,24 +98,24 @@ module _ {M : Type 1} {𝓤 : Ura M} (𝓛 : Logic 𝓤) (at_mem : Memory → SP
   handed = (held, (present, (telegram, tt)))
 
   abbrev passed : Vals update.signature (κ', tt)
-  passed = (held-values held, (vbool handed.1.0 ∷ [], (slice ∷ [], tt)))
+  passed = (held_values held, (vbool handed.1.0 ∷ [], (slice ∷ [], tt)))
 
   abbrev to : (Update 𝓛 at_mem run).Ghost
   to = (((κ', tt), (q', tt), tt, handed, passed), tt)
 
   abbrev next : Updating
-  next = updateOf held handed.1.0 telegram.now
+  next = update_of held handed.1.0 telegram.now
 
-  asked : Is Held.the_row held (held-values held) → ent 𝓤 (⋆ 𝓛 ((‵ (flft κ' q') ⊛ ‵ ftrue) ∷ ‵ Own ∷ [])) ((Update 𝓛 at_mem run).pre to)
+  asked : Is Held.the_row held (held_values held) → ent 𝓤 (⋆ 𝓛 ((‵ (flft κ' q') ⊛ ‵ ftrue) ∷ ‵ Own ∷ [])) ((Update 𝓛 at_mem run).pre to)
   asked was =
       qed 𝓛 ((‵ (flft κ' q') ⊛ ‵ ftrue) ∷ ‵ Own ∷ []) ∵ nothing ! $ move ! (2 ∷ 0 ∷ []) $ fjoin ! $ owned ! bool (Is bool) (bool_Makes 𝓛) handed.1.0 _ refl $ fjoin ! $
       owned ! Held.the_row (Is Held.the_row) (StructLaws.makes Held.the_type HeldLaws.the_plain 𝓛) held _ was $ fjoin ! $ move ! (1 ∷ 0 ∷ []) $ join ! $ frame ! $ done !
 
-  said : (r : Updated) → ent 𝓤 (ensured 𝓛 update.ended (update.clauses 𝓛 at_mem run) (κ', tt) handed tt r) (fact 𝓤 (updatingOf r ≡ next))
-  said r = ex_e 𝓤 _ (λ ws. snd∗ 𝓤 (sem 𝓛 (lasts update.ended (κ', tt) handed ws)) (fact 𝓤 (updatingOf r ≡ next)))
+  said : (r : Updated) → ent 𝓤 (ensured 𝓛 update.ended (update.clauses 𝓛 at_mem run) (κ', tt) handed tt r) (fact 𝓤 (updating_of r ≡ next))
+  said r = ex_e 𝓤 _ (λ ws. snd∗ 𝓤 (sem 𝓛 (lasts update.ended (κ', tt) handed ws)) (fact 𝓤 (updating_of r ≡ next)))
 
   -- the exit: the answer and the record are those of the definition
-  exits : (r : Updated) → updatingOf r ≡ next → Is Said.the_row r.answer (answer-value r.answer ∷ [])
+  exits : (r : Updated) → updating_of r ≡ next → Is Said.the_row r.answer (answer-value r.answer ∷ [])
       → ent 𝓤 (⋆ 𝓛 (‵ (fobs γ ((Held.the_row).coded.code r.signals)) ∷ ‵ (fbor κ (Body (mem Held.the_row) b o γ)) ∷ ‵ (flft κ q) ∷ (‵ (flft κ' q') ⊛ ‵ ftrue) ∷ ‵ Own ∷ [])) (Post (answer-value r.answer))
   exits r e is =
       qed 𝓛 (‵ (fobs γ ((Held.the_row).coded.code r.signals)) ∷ ‵ (fbor κ (Body (mem Held.the_row) b o γ)) ∷ ‵ (flft κ q) ∷ (‵ (flft κ' q') ⊛ ‵ ftrue) ∷ ‵ Own ∷ []) ∵
@@ -135,8 +135,8 @@ module _ {M : Type 1} {𝓤 : Ura M} (𝓛 : Logic 𝓤) (at_mem : Memory → SP
         move ! (13 ∷ []) $ fsplit ! $ fsplit3 ! $ drop ! $ move ! (15 ∷ []) $ split ! $ move ! (4 ∷ []) $ fsplit ! $ drop ! $ fsplit ! $ move ! (1 ∷ []) $ drop ! $
         -- [the slice's; κ's token; κ''s; obs; the borrow; _5; …]
         -- the borrow is opened, and what stands in its cell is the record
-        move ! (3 ∷ 4 ∷ 1 ∷ []) $ opens ! tt Held.the_row {h = held} b o (λ vs. spelt ! Held.the_row (Is Held.the_row) (shows 𝓛 Held.the_row) held-values (StructLaws.tells Held.the_type HeldLaws.the_laws) full_share held vs b o $
-        move ! (1 ∷ []) $ peeks ! Held.the_row (Is Held.the_row) (shows 𝓛 Held.the_row) held (held-values held) (λ was. drop ! $
+        move ! (3 ∷ 4 ∷ 1 ∷ []) $ opens ! tt Held.the_row {h = held} b o (λ vs. spelt ! Held.the_row (Is Held.the_row) (shows 𝓛 Held.the_row) held_values (StructLaws.tells Held.the_type HeldLaws.the_laws) full_share held vs b o $
+        move ! (1 ∷ []) $ peeks ! Held.the_row (Is Held.the_row) (shows 𝓛 Held.the_row) held (held_values held) (λ was. drop ! $
         -- [the record's cell; the open borrow; obs; auth; the slice's; κ''s token; _5; …; _4; …; _3; …; _2; …; _1; …; room for _0; …]
         -- `_5 = *held`
         assigns ! (of_opd ! (load ! (from ! (hop ! (look ! 14 refl) (stop !))) (look_raw ! 0 refl))) (from ! (stop !)) (init ! 6 refl ((StructLaws.lawful Held.the_type HeldLaws.the_laws 𝓛).typed held _ was).0) $
@@ -145,23 +145,23 @@ module _ {M : Type 1} {𝓤 : Ura M} (𝓛 : Logic 𝓤) (at_mem : Memory → SP
         -- `_4 = Signals::update(_5, present, telegram)`, of which only the contract is known
         calls_at ! fm (Update 𝓛 at_mem run) known to (and_then ! (load ! (from ! (stop !)) (look ! 6 refl)) (and_then ! (load ! (from ! (stop !)) (look ! 12 refl)) (and_then ! (load ! (from ! (stop !)) (look ! 10 refl)) (no_more !)))) (λ u.
         use1 𝓛 (later (some (λ (r : Updated). ((‵ (flft κ' q') ⊛ ‵ ftrue) ⊛ ‵ ((Both.the_row).own_val r (u ∷ []))) ⊛ raw (ensured 𝓛 update.ended (update.clauses 𝓛 at_mem run) (κ', tt) handed tt r)))) (id⊢ 𝓤 _) $ await ! tt $ pick ! (λ r.
-        split ! $ move ! (1 ∷ []) $ use1 𝓛 (raw (fact 𝓤 (updatingOf r ≡ next))) (said r) $ heard ! (updatingOf r ≡ next) (λ e. split ! $ move ! (1 ∷ []) $
+        split ! $ move ! (1 ∷ []) $ use1 𝓛 (raw (fact 𝓤 (updating_of r ≡ next))) (said r) $ heard ! (updating_of r ≡ next) (λ e. split ! $ move ! (1 ∷ []) $
         -- [the result; κ''s token; the slice's; the cell; the open borrow; obs; auth; _5; …; room for _4; …]
         peeks ! Both.the_row (Is Both.the_row) (shows 𝓛 Both.the_row) r (u ∷ []) (λ is.
         land ! (from ! (stop !)) (init ! 9 refl ((StructLaws.lawful Both.the_type BothLaws.the_laws 𝓛).typed r _ is).0) $ drop ! $
         rewrite ! 8 (λ (w : Val). ‵ (fat full_share BothLaws.mir l₄ 0 w)) (ap only (StructLaws.tells Both.the_type BothLaws.the_laws r _ is)) refl $
         -- [κ''s token; the slice's; the cell; the open borrow; obs; auth; _5; …; _4; …; _3; …; _2; …; _1; …; room for _0; …]
         -- `*held = _4.signals`, then `_0 = _4.answer`
-        assigns ! (of_opd ! (load ! (from ! (fld ! refl (stop !))) (look_in ! 8 (sub ! 1 refl (whole !))))) (from ! (hop ! (look ! 14 refl) (stop !))) (store_raw ! 2 refl ((StructLaws.lawful Held.the_type HeldLaws.the_laws 𝓛).typed r.signals _ (knows-held r u is)).0) $
-        assigns ! (of_opd ! (load ! (from ! (fld ! refl (stop !))) (look_in ! 8 (sub ! 0 refl (whole !))))) (from ! (stop !)) (init ! 16 refl ((EnumLaws.lawful Said.the_type SaidLaws.the_laws 𝓛 tt).typed r.answer _ (knows-answer r u is)).0) $
-        owned ! Held.the_row (Is Held.the_row) (StructLaws.makes Held.the_type HeldLaws.the_plain 𝓛) r.signals _ (knows-held r u is) $
+        assigns ! (of_opd ! (load ! (from ! (fld ! refl (stop !))) (look_in ! 8 (sub ! 1 refl (whole !))))) (from ! (hop ! (look ! 14 refl) (stop !))) (store_raw ! 2 refl ((StructLaws.lawful Held.the_type HeldLaws.the_laws 𝓛).typed r.signals _ (knows_held r u is)).0) $
+        assigns ! (of_opd ! (load ! (from ! (fld ! refl (stop !))) (look_in ! 8 (sub ! 0 refl (whole !))))) (from ! (stop !)) (init ! 16 refl ((EnumLaws.lawful Said.the_type SaidLaws.the_laws 𝓛 tt).typed r.answer _ (knows_answer r u is)).0) $
+        owned ! Held.the_row (Is Held.the_row) (StructLaws.makes Held.the_type HeldLaws.the_plain 𝓛) r.signals _ (knows_held r u is) $
         -- the borrow is closed at the next record
-        move ! (3 ∷ 0 ∷ 4 ∷ 5 ∷ 6 ∷ []) $ closes ! tt Held.the_row r.signals (held-values r.signals) b o $
+        move ! (3 ∷ 0 ∷ 4 ∷ 5 ∷ 6 ∷ []) $ closes ! tt Held.the_row r.signals (held_values r.signals) b o $
         -- [obs; the borrow; κ's token; κ''s; the slice's; _5; …; _4; …; _3; …; _2; …; _1; …; _0; …]
         -- the locals go
         returns ! (look ! 15 refl) $ forget ! 5 refl $ forget ! 7 refl $ forget ! 9 refl $ forget ! 11 refl $ forget ! 13 refl $ forget ! 15 refl $
         move ! (15 ∷ 16 ∷ []) $ free1 ! $ move ! (13 ∷ 14 ∷ []) $ free1 ! $ move ! (11 ∷ 12 ∷ []) $ free1 ! $ move ! (9 ∷ 10 ∷ []) $ free1 ! $ move ! (7 ∷ 8 ∷ []) $ free1 ! $ move ! (5 ∷ 6 ∷ []) $ free1 ! $ free0 ! $
-        by ! (exits r e (knows-answer r u is))))))))))))))
+        by ! (exits r e (knows_answer r u is))))))))))))))
 
 module _ {M : Type 1} {𝓤 : Ura M} (𝓛 : Logic 𝓤) (mem : Memory → SProp 𝓤) (run : Routine → Fun 𝓤) where
   open 𝓛 use {H}

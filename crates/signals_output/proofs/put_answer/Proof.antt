@@ -3,16 +3,16 @@ use Prim.Native.Nat.{ℕ}
 use mathlib.Core.List.{List}
 use mathlib.Core.Path.{ap}
 use native.Mathlib.Omega.{arith}
-use Rattle.page.proofs.Pages.{paged-as, paged-then, paged-most}
+use Rattle.page.proofs.Pages.{paged_as, paged-then, paged-most}
 use Rattle.signals.specs.Answers.{noted_of}
 use Rattle.signals.specs.declared.Answer.{Answer}
-use Rattle.signals_output.specs.Lines.{answerWords}
+use Rattle.signals_output.specs.Lines.{answer_words}
 use borrow.Author.Rules.{rules}
 use Rattle.signals_output.proofs.put_answer.Statement.{statement}
 use Rattle.signals_output.proofs.put_answer.Tie as tie
 
 abbrev told : Answer → List ℕ
-told answer = answerWords (noted_of answer)
+told answer = answer_words (noted_of answer)
 
 enum_told : tie.Need-enum-told
 enum_told c = search rules
@@ -51,13 +51,13 @@ same_length : tie.Need-same-length
 same_length c = search rules
 
 returns : tie.Need-returns
-returns c = paged-as (ap told c.before.before.before.before.before.enum_told.given.1) (paged-most (omega arith) (c.before.before.put-short-text.ensures.paged (omega arith)))
+returns c = paged_as (ap told c.before.before.before.before.before.enum_told.given.1) (paged-most (omega arith) (c.before.before.put-short-text.ensures.paged (omega arith)))
 
 same-length-2 : tie.Need-same-length-2
 same-length-2 c = search rules
 
 returns-2 : tie.Need-returns-2
-returns-2 c = paged-as (ap told c.before.before.before.before.before.enum-told2.given.1) (paged-most (omega arith) (c.before.before.put-short-text2.ensures.paged (omega arith)))
+returns-2 c = paged_as (ap told c.before.before.before.before.before.enum-told2.given.1) (paged-most (omega arith) (c.before.before.put-short-text2.ensures.paged (omega arith)))
 
 same-length-3 : tie.Need-same-length-3
 same-length-3 c = search rules
@@ -66,7 +66,7 @@ returns-3 : tie.Need-returns-3
 returns-3 c =
     let first = c.before.before.before.before.before.before.put-short-text3.ensures.paged (omega arith) in
     let second = c.before.before.put-bare-number.ensures.paged (omega arith) in
-    paged-as (ap told c.before.before.before.before.before.before.before.before.before.before.answer.given.1) (paged-then first second)
+    paged_as (ap told c.before.before.before.before.before.before.before.before.before.before.answer.given.1) (paged-then first second)
 
 pub put-answer-spec : {M : Type 1} → statement M
 put-answer-spec =

@@ -5,14 +5,14 @@ use native.Mathlib.Omega.{arith}
 use lib.ListN.{length}
 use Rattle.kit.specs.Each.{each}
 use Rattle.page.specs.Pages.{Paged}
-use Rattle.page.proofs.Pages.{paged-none, paged-as, paged-most, paged-each}
-use Rattle.signals_output.specs.Lines.{nationalWord}
+use Rattle.page.proofs.Pages.{paged-none, paged_as, paged-most, paged-each}
+use Rattle.signals_output.specs.Lines.{national_word}
 use borrow.Author.Rules.{rules}
 use Rattle.signals_output.proofs.put_national.Statement.{statement}
 use Rattle.signals_output.proofs.put_national.Tie as tie
 
 abbrev invariant-loop : tie.invariant-loop
-invariant-loop page₀ at national next₀ i₀ page next i = (i ≤ 16) × (length page ≡ length page₀) × Paged (16 * i) page₀ next₀ (each (nationalWord national) 0 i) page next
+invariant-loop page₀ at national next₀ i₀ page next i = (i ≤ 16) × (length page ≡ length page₀) × Paged (16 * i) page₀ next₀ (each (national_word national) 0 i) page next
 
 abbrev decreases-loop : tie.decreases-loop
 decreases-loop page₀ at national next₀ i₀ page next i = 16 - i
@@ -36,7 +36,7 @@ loop-less c = search rules
 loop-again : tie.Need-loop-preserved invariant-loop decreases-loop
 loop-again c =
     let l = c.before.before.before.before.before.before in
-    (search rules, search rules, paged-each (nationalWord l.before.before.args.t1) l.loop.i (omega arith) l.loop.invariant.2 c.before.before.put-isolation.ensures)
+    (search rules, search rules, paged-each (national_word l.before.before.args.t1) l.loop.i (omega arith) l.loop.invariant.2 c.before.before.put-isolation.ensures)
 
 same_length : tie.Need-same-length invariant-loop decreases-loop
 same_length c = search rules
@@ -45,7 +45,7 @@ returns : tie.Need-returns invariant-loop decreases-loop
 returns c =
     let l = c.before in
     let all : l.loop.i ≡ 16 = search rules in
-    paged-as (ap (each (nationalWord l.before.before.args.t1) 0) (sym all)) (paged-most (omega arith) l.loop.invariant.2)
+    paged_as (ap (each (national_word l.before.before.args.t1) 0) (sym all)) (paged-most (omega arith) l.loop.invariant.2)
 
 pub put-national-spec : {M : Type 1} → statement M
 put-national-spec =

@@ -1,6 +1,6 @@
 -- `put_states`: cab, brake position, the sixteen systems and the traction systems, one after another.
 use Rattle.page.proofs.Pages.{paged-then}
-use Rattle.signals_output.specs.Lines.{stateWords}
+use Rattle.signals_output.specs.Lines.{state_words}
 use borrow.Author.Rules.{rules}
 use Rattle.signals_output.proofs.put_states.Statement.{statement}
 use Rattle.signals_output.proofs.put_states.Tie as tie
@@ -21,7 +21,7 @@ same_length : tie.Need-same-length
 same_length c = search rules
 
 returns : tie.Need-returns
-unfolding stateWords
+unfolding state_words
 returns c =
     paged-then c.before.before.before.before.before.before.before.before.before.before.before.before.before.before.put-cab.ensures
     (paged-then c.before.before.before.before.before.before.before.before.before.before.put-brake.ensures (paged-then c.before.before.before.before.before.before.put-national.ensures c.before.before.put-traction.ensures))

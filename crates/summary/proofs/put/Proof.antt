@@ -1,6 +1,6 @@
 -- `put`: the counts, the refusals, the unfinished set and the tail, one after another.
 use Rattle.kit.proofs.Put.{poured-then}
-use Rattle.summary.specs.Summaries.{summaryOf}
+use Rattle.summary.specs.Summaries.{summary_of}
 use borrow.Author.Rules.{rules}
 use Rattle.summary.proofs.put.Statement.{statement}
 use Rattle.summary.proofs.put.Tie as tie
@@ -21,9 +21,9 @@ same_length : tie.Need-same-length
 same_length c = search rules
 
 returns : tie.Need-returns
-unfolding summaryOf
+unfolding summary_of
 returns c =
-    poured-then c.before.before.before.before.before.before.before.before.before.before.before.before.before.before.put-counts.ensures
+    poured-then c.before.before.before.before.before.before.before.before.before.before.before.before.before.before.put_counts_lem.ensures
     (poured-then c.before.before.before.before.before.before.before.before.before.before.put-refusals.ensures
     (poured-then c.before.before.before.before.before.before.put-unfinished.ensures c.before.before.put-tail.ensures))
 

@@ -1,6 +1,6 @@
 -- `put_counts`: three lines, one after another.
 use Rattle.kit.proofs.Put.{poured-then}
-use Rattle.summary.specs.Summaries.{countLines}
+use Rattle.summary.specs.Summaries.{count_lines}
 use borrow.Author.Rules.{rules}
 use Rattle.summary.proofs.put_counts.Statement.{statement}
 use Rattle.summary.proofs.put_counts.Tie as tie
@@ -27,7 +27,7 @@ same_length : tie.Need-same-length
 same_length c = search rules
 
 returns : tie.Need-returns
-unfolding countLines
+unfolding count_lines
 returns c =
     let third = c.before.before in
     let second = third.before.before.before.before.before in

@@ -1,6 +1,6 @@
 -- `put_packet`: a blank and the number where the packet is held.
-use Rattle.kit.proofs.Put.{poured-as}
-use Rattle.summary.specs.Summaries.{packetPart}
+use Rattle.kit.proofs.Put.{poured_as}
+use Rattle.summary.specs.Summaries.{packet_part}
 use borrow.Author.Rules.{rules}
 use Rattle.summary.proofs.put_packet.Statement.{statement}
 use Rattle.summary.proofs.put_packet.Tie as tie
@@ -15,8 +15,8 @@ same_length : tie.Need-same-length
 same_length c = search rules
 
 returns : tie.Need-returns
-unfolding packetPart
-returns c = poured-as (simp c.before.before.before.before.before.if1.true) c.before.before.put-numbered.ensures
+unfolding packet_part
+returns c = poured_as (simp c.before.before.before.before.before.if1.true) c.before.before.put-numbered.ensures
 
 slice-aggregate-put-words : tie.Need-slice-aggregate-put-words
 slice-aggregate-put-words c = search rules
@@ -28,8 +28,8 @@ same-length-2 : tie.Need-same-length-2
 same-length-2 c = search rules
 
 returns-2 : tie.Need-returns-2
-unfolding packetPart
-returns-2 c = poured-as (simp c.before.before.before.before.before.if1.false) c.before.before.put-words.ensures
+unfolding packet_part
+returns-2 c = poured_as (simp c.before.before.before.before.before.if1.false) c.before.before.put-words.ensures
 
 pub put-packet-spec : {M : Type 1} → statement M
 put-packet-spec =

@@ -4,14 +4,14 @@ use mathlib.Core.Path.{◌≡◌, sym, ap, ◌∙◌}
 use native.Mathlib.Omega.{arith}
 use Rattle.kit.specs.Each.{each}
 use Rattle.kit.specs.Put.{Poured}
-use Rattle.kit.proofs.Put.{poured-as, poured-each, poured-here, poured-length, poured-then}
-use Rattle.summary.specs.Summaries.{packetAt, packetParts}
+use Rattle.kit.proofs.Put.{poured_as, poured-each, poured-here, poured-length, poured-then}
+use Rattle.summary.specs.Summaries.{packet_at, packet_parts}
 use borrow.Author.Rules.{rules}
 use Rattle.summary.proofs.put_packets.Statement.{statement}
 use Rattle.summary.proofs.put_packets.Tie as tie
 
 abbrev invariant-loop : tie.invariant-loop
-invariant-loop out₀ at held next₀ k₀ out next k = (k ≤ 5) × Poured out₀ next₀ (each (packetAt held) 0 k) out next
+invariant-loop out₀ at held next₀ k₀ out next k = (k ≤ 5) × Poured out₀ next₀ (each (packet_at held) 0 k) out next
 
 abbrev decreases-loop : tie.decreases-loop
 decreases-loop out₀ at held next₀ k₀ out next k = 5 - k
@@ -45,18 +45,18 @@ loop-again : tie.Need-loop-preserved invariant-loop decreases-loop
 loop-again c =
     let l = c.before.before.before.before.before in
     let args = c.before.before.before.before.before.before.before.before.before.before.before.before.args in
-    (search rules, poured-each (packetAt args.t1) l.loop.k l.loop.invariant.1 c.before.before.put-packet.ensures)
+    (search rules, poured-each (packet_at args.t1) l.loop.k l.loop.invariant.1 c.before.before.put-packet.ensures)
 
 same_length : tie.Need-same-length invariant-loop decreases-loop
 same_length c = poured-length c.before.loop.invariant.1 ∙ poured-length c.before.before.before.before.put-words.ensures
 
 returns : tie.Need-returns invariant-loop decreases-loop
-unfolding packetParts
+unfolding packet_parts
 returns c =
     let l = c.before.loop in
     let args = c.before.before.before.before.before.before.before.before.args in
     let all : l.k ≡ 5 = omega arith in
-    poured-then c.before.before.before.before.put-words.ensures (poured-as (ap (λ n. each (packetAt args.t1) 0 n) (sym all)) l.invariant.1)
+    poured-then c.before.before.before.before.put-words.ensures (poured_as (ap (λ n. each (packet_at args.t1) 0 n) (sym all)) l.invariant.1)
 
 pub put-packets-spec : {M : Type 1} → statement M
 put-packets-spec =

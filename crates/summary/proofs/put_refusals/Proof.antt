@@ -4,14 +4,14 @@ use mathlib.Core.Path.{◌≡◌, sym, ap, ◌∙◌}
 use native.Mathlib.Omega.{arith}
 use Rattle.kit.specs.Each.{each}
 use Rattle.kit.specs.Put.{Poured}
-use Rattle.kit.proofs.Put.{poured-as, poured-each, poured-here, poured-length, poured-then}
-use Rattle.summary.specs.Summaries.{refusalAt, refusalParts}
+use Rattle.kit.proofs.Put.{poured_as, poured-each, poured-here, poured-length, poured-then}
+use Rattle.summary.specs.Summaries.{refusal_at, refusal_parts}
 use borrow.Author.Rules.{rules}
 use Rattle.summary.proofs.put_refusals.Statement.{statement}
 use Rattle.summary.proofs.put_refusals.Tie as tie
 
 abbrev invariant-loop : tie.invariant-loop
-invariant-loop out₀ at refused first next₀ number₀ out next number = (number ≤ 16) × Poured out₀ next₀ (each (refusalAt refused first) 0 number) out next
+invariant-loop out₀ at refused first next₀ number₀ out next number = (number ≤ 16) × Poured out₀ next₀ (each (refusal_at refused first) 0 number) out next
 
 abbrev decreases-loop : tie.decreases-loop
 decreases-loop out₀ at refused first next₀ number₀ out next number = 16 - number
@@ -51,18 +51,18 @@ loop-again : tie.Need-loop-preserved invariant-loop decreases-loop
 loop-again c =
     let l = c.before.before.before.before.before in
     let args = c.before.before.before.before.before.before.before.before.before.before.before.before.args in
-    (search rules, poured-each (refusalAt args.t1 args.t2) l.loop.number l.loop.invariant.1 c.before.before.put-refusal.ensures)
+    (search rules, poured-each (refusal_at args.t1 args.t2) l.loop.number l.loop.invariant.1 c.before.before.put-refusal.ensures)
 
 same_length : tie.Need-same-length invariant-loop decreases-loop
 same_length c = poured-length c.before.loop.invariant.1 ∙ poured-length c.before.before.before.before.put-words.ensures
 
 returns : tie.Need-returns invariant-loop decreases-loop
-unfolding refusalParts
+unfolding refusal_parts
 returns c =
     let l = c.before.loop in
     let args = c.before.before.before.before.before.before.before.before.args in
     let all : l.number ≡ 16 = omega arith in
-    poured-then c.before.before.before.before.put-words.ensures (poured-as (ap (λ n. each (refusalAt args.t1 args.t2) 0 n) (sym all)) l.invariant.1)
+    poured-then c.before.before.before.before.put-words.ensures (poured_as (ap (λ n. each (refusal_at args.t1 args.t2) 0 n) (sym all)) l.invariant.1)
 
 pub put-refusals-spec : {M : Type 1} → statement M
 put-refusals-spec =

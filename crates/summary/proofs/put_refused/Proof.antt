@@ -1,6 +1,6 @@
 -- `put_refused`: the words and the three numbers, one after another.
 use Rattle.kit.proofs.Put.{poured-then}
-use Rattle.summary.specs.Summaries.{refusalLine}
+use Rattle.summary.specs.Summaries.{refusal_line}
 use borrow.Author.Rules.{rules}
 use Rattle.summary.proofs.put_refused.Statement.{statement}
 use Rattle.summary.proofs.put_refused.Tie as tie
@@ -33,7 +33,7 @@ same_length : tie.Need-same-length
 same_length c = search rules
 
 returns : tie.Need-returns
-unfolding refusalLine
+unfolding refusal_line
 returns c =
     let end = c.before.before in
     let place = end.before.before.before.before.before in

@@ -1,6 +1,6 @@
 -- `put_set`: the words, the step, the packets and the line feed, one after another.
 use Rattle.kit.proofs.Put.{poured-then}
-use Rattle.summary.specs.Summaries.{unfinishedLine}
+use Rattle.summary.specs.Summaries.{unfinished_line}
 use borrow.Author.Rules.{rules}
 use Rattle.summary.proofs.put_set.Statement.{statement}
 use Rattle.summary.proofs.put_set.Tie as tie
@@ -30,7 +30,7 @@ same_length : tie.Need-same-length
 same_length c = search rules
 
 returns : tie.Need-returns
-unfolding unfinishedLine
+unfolding unfinished_line
 returns c =
     let end = c.before.before in
     let packets = end.before.before.before.before.before in

@@ -1,7 +1,7 @@
 -- `put_tail`: a line unless nothing is left.
 use borrow.Author.Tests.{eq-eqb, ne_eqb}
-use Rattle.kit.proofs.Put.{poured-as, poured-then}
-use Rattle.summary.specs.Summaries.{tailPart}
+use Rattle.kit.proofs.Put.{poured_as, poured-then}
+use Rattle.summary.specs.Summaries.{tail_part}
 use borrow.Author.Rules.{rules}
 use Rattle.summary.proofs.put_tail.Statement.{statement}
 use Rattle.summary.proofs.put_tail.Tie as tie
@@ -16,8 +16,8 @@ same_length : tie.Need-same-length
 same_length c = search rules
 
 returns : tie.Need-returns
-unfolding tailPart
-returns c = poured-as (simp (eq-eqb _ _ c.before.before.before.before.before.if1.true)) c.before.before.put-words.ensures
+unfolding tail_part
+returns c = poured_as (simp (eq-eqb _ _ c.before.before.before.before.before.if1.true)) c.before.before.put-words.ensures
 
 slice-aggregate-put-numbered : tie.Need-slice-aggregate-put-numbered
 slice-aggregate-put-numbered c = search rules
@@ -35,11 +35,11 @@ same-length-2 : tie.Need-same-length-2
 same-length-2 c = search rules
 
 returns-2 : tie.Need-returns-2
-unfolding tailPart
+unfolding tail_part
 returns-2 c =
     let end = c.before.before in
     let size = end.before.before.before.before.before in
-    poured-as (simp (ne_eqb _ _ size.before.before.before.if1.false)) (poured-then size.put-numbered.ensures end.put-words2.ensures)
+    poured_as (simp (ne_eqb _ _ size.before.before.before.if1.false)) (poured-then size.put-numbered.ensures end.put-words2.ensures)
 
 pub put-tail-spec : {M : Type 1} → statement M
 put-tail-spec =

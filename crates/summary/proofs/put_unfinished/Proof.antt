@@ -1,7 +1,7 @@
 -- `put_unfinished`: a line where some packet is held.
 use mathlib.Core.Path.{sym, ◌∙◌}
-use Rattle.kit.proofs.Put.{poured-as}
-use Rattle.summary.specs.Summaries.{unfinishedPart}
+use Rattle.kit.proofs.Put.{poured_as}
+use Rattle.summary.specs.Summaries.{unfinished_part}
 use borrow.Author.Rules.{rules}
 use Rattle.summary.proofs.put_unfinished.Statement.{statement}
 use Rattle.summary.proofs.put_unfinished.Tie as tie
@@ -16,11 +16,11 @@ same_length : tie.Need-same-length
 same_length c = search rules
 
 returns : tie.Need-returns
-unfolding unfinishedPart
+unfolding unfinished_part
 returns c =
     let put = c.before.before in
     let test = put.before.before in
-    poured-as (simp (sym test.before.is-begun.ensures ∙ test.if1.true)) put.put-set.ensures
+    poured_as (simp (sym test.before.is-begun.ensures ∙ test.if1.true)) put.put-set.ensures
 
 slice-aggregate-put-words : tie.Need-slice-aggregate-put-words
 slice-aggregate-put-words c = search rules
@@ -32,11 +32,11 @@ same-length-2 : tie.Need-same-length-2
 same-length-2 c = search rules
 
 returns-2 : tie.Need-returns-2
-unfolding unfinishedPart
+unfolding unfinished_part
 returns-2 c =
     let put = c.before.before in
     let test = put.before.before.before in
-    poured-as (simp (sym test.before.is-begun.ensures ∙ test.if1.false)) put.put-words.ensures
+    poured_as (simp (sym test.before.is-begun.ensures ∙ test.if1.false)) put.put-words.ensures
 
 pub put-unfinished-spec : {M : Type 1} → statement M
 put-unfinished-spec =

@@ -4,7 +4,7 @@ use mathlib.Core.Path.{◌≡◌, sym, ap, ◌∙◌}
 use lib.ListN.{length, get_or, set}
 use lib.Seq.{set_out}
 use native.Mathlib.Omega.{arith}
-use Rattle.summary.specs.Tallies.{oneMore, knownOr, counted}
+use Rattle.summary.specs.Tallies.{one_more, known_or, counted}
 use borrow.Author.Rules.{rules}
 use Rattle.summary.proofs.refuse.Statement.{statement}
 use Rattle.summary.proofs.refuse.Tie as tie
@@ -54,7 +54,7 @@ returns c =
       tables = tally.tables;
       repeats = tally.repeats;
       refused = set tally.refused a.number (c.before.one-more2.ensures i);
-      first = set tally.first a.number ((c.first-or.ensures ∙ ap (knownOr (get_or tally.first a.number 0)) place) i);
+      first = set tally.first a.number ((c.first-or.ensures ∙ ap (known_or (get_or tally.first a.number 0)) place) i);
     }
 
 returns-2 : tie.Need-returns-2
@@ -65,8 +65,8 @@ returns-2 c =
     let past : 16 ≤ a.number = search rules in
     let long : length tally.refused ≡ 16 = search rules in
     let wide : length tally.first ≡ 16 = search rules in
-    let same = sym (set_out tally.refused a.number (oneMore (get_or tally.refused a.number 0)) (omega (arith, long, past))) in
-    let still = sym (set_out tally.first a.number (knownOr (get_or tally.first a.number 0) (oneMore tally.telegrams)) (omega (arith, wide, past))) in
+    let same = sym (set_out tally.refused a.number (one_more (get_or tally.refused a.number 0)) (omega (arith, long, past))) in
+    let still = sym (set_out tally.first a.number (known_or (get_or tally.first a.number 0) (one_more tally.telegrams)) (omega (arith, wide, past))) in
     λ i. record { telegrams = c.before.before.before.one_more.ensures i; tables = tally.tables; repeats = tally.repeats; refused = same i; first = still i }
 
 pub refuse-spec : {M : Type 1} → statement M

@@ -1,6 +1,6 @@
 -- `four_of`: slot by slot.
 use native.Mathlib.Nat.{add-zero}
-use Rattle.telegram.specs.Tables.{fourOf}
+use Rattle.telegram.specs.Tables.{four_of}
 use borrow.Author.Rules.{rules}
 use Rattle.telegram.proofs.four_of.Statement.{statement}
 use Rattle.telegram.proofs.four_of.Tie as tie
@@ -30,8 +30,8 @@ slot-in-requires-4 : tie.Need-slot-in-requires-4
 slot-in-requires-4 c κs = search rules
 
 returns : tie.Need-returns
-unfolding fourOf
-returns c = simp (add-zero, c.before.before.before.slot-in.ensures, c.before.before.slot-in2.ensures, c.before.slot-in3.ensures, c.slot-in4.ensures, c.before.before.before.before.first_slot.ensures)
+unfolding four_of
+returns c = simp (add-zero, c.before.before.before.slot_in_lem.ensures, c.before.before.slot-in2.ensures, c.before.slot-in3.ensures, c.slot-in4.ensures, c.before.before.before.before.first_slot.ensures)
 
 pub four-of-spec : {M : Type 1} → statement M
 four-of-spec =

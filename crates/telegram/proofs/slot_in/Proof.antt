@@ -3,7 +3,7 @@ use Prim.Native.Nat.{◌≤◌}
 use mathlib.Core.Path.{refl, sym, ◌∙◌}
 use native.Mathlib.Omega.{arith}
 use lib.ListN.{length, get_or-eq_default}
-use Rattle.condition.specs.Slots.{emptySlot}
+use Rattle.condition.specs.Slots.{empty_slot}
 use borrow.Author.Rules.{rules}
 use Rattle.telegram.proofs.slot_in.Statement.{statement}
 use Rattle.telegram.proofs.slot_in.Tie as tie
@@ -24,7 +24,7 @@ returns-2 : tie.Need-returns-2
 returns-2 c =
     let a = c.before.before.args in
     let past : length a.t1 ≤ a.i = omega (arith, c.before.before.well-formed.0.1.0.1) in
-    c.empty.ensures ∙ sym (get_or-eq_default a.t1 emptySlot past)
+    c.empty.ensures ∙ sym (get_or-eq_default a.t1 empty_slot past)
 
 pub slot-in-spec : {M : Type 1} → statement M
 slot-in-spec =

@@ -1,5 +1,5 @@
 -- `coded_at`: the words are those of `word`.
-use Rattle.telegram.specs.Telegrams.{codedAt}
+use Rattle.telegram.specs.Telegrams.{coded_at}
 use borrow.Author.Rules.{rules}
 use Rattle.telegram_reader.proofs.coded_at.Statement.{statement}
 use Rattle.telegram_reader.proofs.coded_at.Tie as tie
@@ -50,7 +50,7 @@ word-requires-2 : tie.Need-word-requires-2
 word-requires-2 c κs = search rules
 
 returns : tie.Need-returns
-unfolding codedAt
+unfolding coded_at
 returns c = simp (c.before.before.before.word.ensures, c.word2.ensures)
 
 pub coded-at-spec : {M : Type 1} → statement M

@@ -6,9 +6,9 @@ use lib.Dec.{eqb}
 use borrow.Author.Tests.{eqb-true}
 use Rattle.kit.specs.Ladder.{ladder, above}
 use Rattle.kit.proofs.Cases.{on, above_zero, at_zero}
-use Rattle.condition.specs.Slots.{slotRows}
+use Rattle.condition.specs.Slots.{slot_rows}
 use Rattle.condition.specs.declared.slots.Coded.{Coded}
-use Rattle.telegram.specs.Telegrams.{codedAt, takenRow, placeRows}
+use Rattle.telegram.specs.Telegrams.{coded_at, taken_row, place_rows}
 use Rattle.telegram.proofs.Rows.{place-above}
 use borrow.Author.Rules.{rules}
 use Rattle.telegram_reader.proofs.place_refusal.Statement.{statement}
@@ -19,8 +19,8 @@ unfolding above
 above-none number = on (eqb number 0) (λ e. rw e (eqb-true number 0 e)) (λ e. rw e refl)
 
 -- a place's answer, by those of its slot and of row 14
-both : (bytes : List ℕ) (k : ℕ) (coded : Coded) (own taken : ℕ) → coded ≡ codedAt bytes k → own ≡ ladder 0 (slotRows coded)
-    → taken ≡ ladder 0 (takenRow bytes k coded.number) → above own taken ≡ ladder 0 (placeRows bytes k)
+both : (bytes : List ℕ) (k : ℕ) (coded : Coded) (own taken : ℕ) → coded ≡ coded_at bytes k → own ≡ ladder 0 (slot_rows coded)
+    → taken ≡ ladder 0 (taken_row bytes k coded.number) → above own taken ≡ ladder 0 (place_rows bytes k)
 both bytes k coded own taken same first second = ap₂ above first second ∙ sym (place-above bytes k coded same)
 
 coded-at-requires : tie.Need-coded-at-requires

@@ -5,25 +5,25 @@ use mathlib.Core.Path.{◌≡◌, sym, ◌∙◌}
 use borrow.Author.Rules.{rules}
 use borrow.Author.Tests.{eq-eqb, ne_eqb, lt-ltb, le-ltb}
 use Rattle.kit.specs.Ladder.{ladder}
-use Rattle.kit.specs.Loops.{firstNonzero}
+use Rattle.kit.specs.Loops.{first_nonzero}
 use Rattle.kit.proofs.Ladder.{ladder-each}
-use Rattle.kit.proofs.Loops.{first-go, first-hit, scan-end}
-use Rattle.telegram.specs.Telegrams.{placeRows, readRows}
+use Rattle.kit.proofs.Loops.{first-go, first_hit, scan-end}
+use Rattle.telegram.specs.Telegrams.{place_rows, read_rows}
 use Rattle.telegram.proofs.Rows.{place-numbered}
 use Rattle.telegram_reader.proofs.refusal_of.Statement.{statement}
 use Rattle.telegram_reader.proofs.refusal_of.Tie as tie
 
 abbrev judged : List ℕ → ℕ → ℕ
-judged bytes k = ladder 0 (placeRows bytes k)
+judged bytes k = ladder 0 (place_rows bytes k)
 
 abbrev invariant-loop : tie.invariant-loop
-invariant-loop bytes k₀ k = (k ≤ 4) × (ladder 0 (readRows bytes) ≡ firstNonzero (judged bytes) k (4 - k))
+invariant-loop bytes k₀ k = (k ≤ 4) × (ladder 0 (read_rows bytes) ≡ first_nonzero (judged bytes) k (4 - k))
 
 abbrev decreases-loop : tie.decreases-loop
 decreases-loop bytes k₀ k = 4 - k
 
 returns : tie.Need-returns invariant-loop decreases-loop
-unfolding ladder readRows
+unfolding ladder read_rows
 returns c = simp (ne_eqb _ _ c.if1.true)
 
 word-at-requires : tie.Need-word-at-requires invariant-loop decreases-loop
@@ -33,15 +33,15 @@ cast-if2 : tie.Need-overflow-cast-if2 invariant-loop decreases-loop
 cast-if2 c = search rules
 
 returns-2 : tie.Need-returns-2 invariant-loop decreases-loop
-unfolding ladder readRows
+unfolding ladder read_rows
 returns-2 c = simp (eq-eqb _ _ c.before.before.if1.false, sym c.before.word_at.ensures, lt-ltb _ _ c.if2.true)
 
 loop-holds : tie.Need-loop-init invariant-loop decreases-loop
-unfolding ladder readRows
+unfolding ladder read_rows
 loop-holds c =
     let b = c.before.before.before.before.args.bytes.now in (
       search rules,
-      simp (eq-eqb _ _ c.before.before.if1.false, sym c.before.word_at.ensures, le-ltb _ _ c.if2.false) (ladder-each (placeRows b) (place-numbered b) 0 4),
+      simp (eq-eqb _ _ c.before.before.if1.false, sym c.before.word_at.ensures, le-ltb _ _ c.if2.false) (ladder-each (place_rows b) (place-numbered b) 0 4),
     )
 
 place-refusal-requires : tie.Need-place-refusal-requires invariant-loop decreases-loop
@@ -51,7 +51,7 @@ returns-3 : tie.Need-returns-3 invariant-loop decreases-loop
 returns-3 c =
     let l = c.before.before.before in
     let e = c.before.place-refusal.ensures in
-    e ∙ sym (l.loop.invariant.1 ∙ first-hit (judged l.before.before.before.before.before.args.bytes.now) 4 l.loop.k (search rules) (λ z. c.if3.true (e ∙ z)))
+    e ∙ sym (l.loop.invariant.1 ∙ first_hit (judged l.before.before.before.before.before.args.bytes.now) 4 l.loop.k (search rules) (λ z. c.if3.true (e ∙ z)))
 
 add-k : tie.Need-overflow-add-k invariant-loop decreases-loop
 add-k c = search rules

@@ -6,20 +6,20 @@ use borrow.Author.Tests.{eq-eqb, ne_eqb}
 use lib.Dec.{eqb}
 use lib.ListN.{get_or}
 use Rattle.kit.specs.Loops.{any}
-use Rattle.kit.proofs.Loops.{scan-go, scan-hit, scan-end}
-use Rattle.telegram.specs.Telegrams.{takenBefore, placeStart}
+use Rattle.kit.proofs.Loops.{scan-go, scan_hit, scan-end}
+use Rattle.telegram.specs.Telegrams.{taken_before, place_start}
 use borrow.Author.Rules.{rules}
 use Rattle.telegram_reader.proofs.taken_before.Statement.{statement}
 use Rattle.telegram_reader.proofs.taken_before.Tie as tie
 
 abbrev invariant-loop : tie.invariant-loop
-invariant-loop bytes k number j₀ j = (j ≤ k) × (takenBefore bytes k number ≡ any (λ i. eqb (get_or bytes (placeStart i) 0) number) j (k - j))
+invariant-loop bytes k number j₀ j = (j ≤ k) × (taken_before bytes k number ≡ any (λ i. eqb (get_or bytes (place_start i) 0) number) j (k - j))
 
 abbrev decreases-loop : tie.decreases-loop
 decreases-loop bytes k number j₀ j = k - j
 
 loop-holds : tie.Need-loop-init invariant-loop decreases-loop
-unfolding takenBefore
+unfolding taken_before
 loop-holds c = (search rules, simp sub-zero)
 
 mul-if1 : tie.Need-overflow-mul-if1 invariant-loop decreases-loop
@@ -32,7 +32,7 @@ shared-slice-read-if1 : tie.Need-shared-slice-read-if1 invariant-loop decreases-
 shared-slice-read-if1 c = search rules
 
 returns : tie.Need-returns invariant-loop decreases-loop
-returns c = let l = c.before.before.before.loop in sym (l.invariant.1 ∙ scan-hit _ _ _ _ l.j (search rules) (eq-eqb _ _ c.if1.true))
+returns c = let l = c.before.before.before.loop in sym (l.invariant.1 ∙ scan_hit _ _ _ _ l.j (search rules) (eq-eqb _ _ c.if1.true))
 
 add-j : tie.Need-overflow-add-j invariant-loop decreases-loop
 add-j c = search rules

@@ -1,5 +1,5 @@
 -- `telegram_of`: head and the four slots, one by one.
-use Rattle.telegram.specs.Telegrams.{telegramOf}
+use Rattle.telegram.specs.Telegrams.{telegram_of}
 use borrow.Author.Rules.{rules}
 use Rattle.telegram_reader.proofs.telegram_of.Statement.{statement}
 use Rattle.telegram_reader.proofs.telegram_of.Tie as tie
@@ -23,7 +23,7 @@ cast-t9 : tie.Need-overflow-cast-t9
 cast-t9 c = search rules
 
 returns : tie.Need-returns
-unfolding telegramOf
+unfolding telegram_of
 returns c =
     let first = c.before.before.before in
     simp (first.before.word_at.ensures, first.slot_at.ensures, c.before.before.slot-at2.ensures, c.before.slot-at3.ensures, c.slot-at4.ensures)

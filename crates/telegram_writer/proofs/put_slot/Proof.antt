@@ -1,7 +1,7 @@
 -- `put_slot`: number, type and the two words of the slot as it is coded, one after another.
 use mathlib.Core.Path.{sym, ap}
 use Rattle.kit.proofs.Put.{put_then, put_as}
-use Rattle.condition.specs.Slots.{sixOf}
+use Rattle.condition.specs.Slots.{six_of}
 use borrow.Author.Rules.{rules}
 use Rattle.telegram_writer.proofs.put_slot.Statement.{statement}
 use Rattle.telegram_writer.proofs.put_slot.Tie as tie
@@ -25,13 +25,13 @@ same_length : tie.Need-same-length
 same_length c = search rules
 
 returns : tie.Need-returns
-unfolding sixOf
+unfolding six_of
 returns c =
     let second = c.before.before in
     let first = second.before.before.before.before in
     let kind = first.before.before.before.before in
     let number = kind.before.before.before.before in
-    put_as (ap sixOf (sym number.before.before.coded-of.ensures))
+    put_as (ap six_of (sym number.before.before.coded-of.ensures))
     (put_then number.put_byte.ensures
     (put_then kind.put-byte2.ensures (put_then first.put_word.ensures second.put-word2.ensures)))
 

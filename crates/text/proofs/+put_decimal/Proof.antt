@@ -3,7 +3,7 @@ use borrow.Author.Rules.{rules}
 use Prim.Native.Nat.{ℕ, ◌/◌, ◌<◌, ◌≤◌}
 use mathlib.Core.Path.{subst}
 use native.Mathlib.Omega.{arith}
-use Rattle.kit.proofs.Put.{poured-as, poured-then}
+use Rattle.kit.proofs.Put.{poured_as, poured-then}
 use Rattle.text.proofs.Numerals.{decimal-one, decimal-more}
 use borrow.Fn.Kinds.{In}
 use borrow.Fn.PlainCycle.{Measures, is, falls, and}
@@ -41,7 +41,7 @@ put-decimal-same-length : (t : ℕ) → put-decimal-lts.Need-same-length (claims
 put-decimal-same-length t c = search rules
 
 put-decimal-returns : (t : ℕ) → put-decimal-lts.Need-returns (claims t) (put-decimal-at t) put-decimal.Post
-put-decimal-returns t c = poured-as (decimal-one c.before.before.before.before.before.before.args.number c.before.before.before.before.if1.true) c.before.before.put_byte.ensures
+put-decimal-returns t c = poured_as (decimal-one c.before.before.before.before.before.before.args.number c.before.before.before.before.if1.true) c.before.before.put_byte.ensures
 
 put-decimal-put-decimal-requires : (t : ℕ) → put-decimal-lts.Need-put-decimal-requires (claims t) (put-decimal-at t) put-decimal.Post
 put-decimal-put-decimal-requires t c κs =
@@ -64,7 +64,7 @@ put-decimal-same-length-2 t c = search rules
 put-decimal-returns-2 : (t : ℕ) → put-decimal-lts.Need-returns-2 (claims t) (put-decimal-at t) put-decimal.Post
 put-decimal-returns-2 t c =
     let start = c.before.before.before.before.before.before.before.before.before.before in
-    poured-as (decimal-more start.args.number c.before.before.before.before.before.before.before.before.if1.false)
+    poured_as (decimal-more start.args.number c.before.before.before.before.before.before.before.before.if1.false)
     (poured-then c.before.before.before.before.before.before.put-decimal.ensures c.before.before.put-byte2.ensures)
 
 pub +put-decimal-spec : {M : Type 1} → statement M

@@ -2,8 +2,8 @@
 use Prim.Native.Nat.{◌-◌}
 use lib.ListN.{length}
 use native.Mathlib.Omega.{arith}
-use Rattle.kit.proofs.Put.{poured-full}
-use Rattle.text.proofs.Copies.{copied_all, copied-part}
+use Rattle.kit.proofs.Put.{poured_full}
+use Rattle.text.proofs.Copies.{copied_all, copied_part}
 use borrow.Author.Rules.{rules}
 use Rattle.text.proofs.put_words.Statement.{statement}
 use Rattle.text.proofs.put_words.Tie as tie
@@ -29,10 +29,10 @@ same-length-2 c = search rules
 returns-2 : tie.Need-returns-2
 returns-2 c =
     let start = c.before.before.before.before.before.before.before.before in
-    copied-part start.args.words.now (length start.args.buffer.now - start.args.at) (omega arith) (omega arith) c.before.before.copy-words2.ensures
+    copied_part start.args.words.now (length start.args.buffer.now - start.args.at) (omega arith) (omega arith) c.before.before.copy-words2.ensures
 
 returns-3 : tie.Need-returns-3
-returns-3 c = poured-full _ _ _ c.if1.false
+returns-3 c = poured_full _ _ _ c.if1.false
 
 pub put-words-spec : {M : Type 1} → statement M
 put-words-spec =

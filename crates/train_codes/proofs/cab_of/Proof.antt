@@ -1,20 +1,20 @@
 -- `cab_of`: by the two bits.
 use mathlib.Core.Path.{sym, ap₂}
-use Rattle.train_codes.specs.Codes.{cabOf}
+use Rattle.train_codes.specs.Codes.{cab_of}
 use Rattle.train_codes.proofs.cab_of.Statement.{statement}
 use Rattle.train_codes.proofs.cab_of.Tie as tie
 
 returns : tie.Need-returns
-returns c = sym (ap₂ cabOf c.before.if1.true c.if2.true)
+returns c = sym (ap₂ cab_of c.before.if1.true c.if2.true)
 
 returns-2 : tie.Need-returns-2
-returns-2 c = sym (ap₂ cabOf c.before.if1.true c.if2.false)
+returns-2 c = sym (ap₂ cab_of c.before.if1.true c.if2.false)
 
 returns-3 : tie.Need-returns-3
-returns-3 c = sym (ap₂ cabOf c.before.if1.false c.if3.true)
+returns-3 c = sym (ap₂ cab_of c.before.if1.false c.if3.true)
 
 returns-4 : tie.Need-returns-4
-returns-4 c = sym (ap₂ cabOf c.before.if1.false c.if3.false)
+returns-4 c = sym (ap₂ cab_of c.before.if1.false c.if3.false)
 
 pub cab-of-spec : {M : Type 1} → statement M
 cab-of-spec = tie.close (tie.spec returns returns-2 returns-3 returns-4)

@@ -1,6 +1,6 @@
 -- `coded_of`: by the variant that the `match` found.
 use mathlib.Core.Path.{sym, ap}
-use Rattle.condition.specs.Slots.{codedOf, coding}
+use Rattle.condition.specs.Slots.{coded_of, coding}
 use borrow.Author.Rules.{rules}
 use Rattle.condition.proofs.slots.coded_of.Statement.{statement}
 use Rattle.condition.proofs.slots.coded_of.Tie as tie
@@ -27,19 +27,19 @@ enum-known-body-3 : tie.Need-enum-known-body-3
 enum-known-body-3 c = search rules
 
 returns : tie.Need-returns
-unfolding codedOf
+unfolding coded_of
 returns c = sym (ap (coding _) c.enum_told.given.1)
 
 returns-2 : tie.Need-returns-2
-unfolding codedOf
+unfolding coded_of
 returns-2 c = sym (ap (coding _) c.before.body.given.1)
 
 returns-3 : tie.Need-returns-3
-unfolding codedOf
+unfolding coded_of
 returns-3 c = sym (ap (coding _) c.before.body2.given.1)
 
 returns-4 : tie.Need-returns-4
-unfolding codedOf
+unfolding coded_of
 returns-4 c = sym (ap (coding _) c.before.body3.given.1)
 
 pub coded-of-spec : {M : Type 1} → statement M

@@ -6,18 +6,18 @@ use lib.ListN.{length}
 use borrow.Author.Rules.{rules}
 use Rattle.wire.specs.Steps.{steps}
 use Rattle.wire.specs.declared.verdicts.Verdict.TheVariants.{Accepted, Refused}
-use Rattle.order_list.specs.Lists.{orderCount}
-use Rattle.orders.specs.Orders.{listRefusal}
+use Rattle.order_list.specs.Lists.{order_count}
+use Rattle.orders.specs.Orders.{list_refusal}
 use Rattle.orders.proofs.Lists.{fair-length}
-use Rattle.resting.specs.Rests.{isResting}
-use Rattle.leaving.specs.Leaving.{remainsOf}
+use Rattle.resting.specs.Rests.{is_resting}
+use Rattle.leaving.specs.Leaving.{remains_of}
 use Rattle.leaving.specs.declared.Remains.{Remains}
-use Rattle.arriving.specs.Arriving.{seatedAll}
+use Rattle.arriving.specs.Arriving.{seated_all}
 use Rattle.arriving.specs.declared.Seats.{Seats}
 use Rattle.desk.specs.declared.Answer.{Answer}
 use Rattle.desk.specs.declared.Desk.{Desk}
-use Rattle.desk.specs.Desks.{baseRest, acceptOf}
-use Rattle.desk.specs.Steps.{nextStep, step_of}
+use Rattle.desk.specs.Desks.{base_rest, accept_of}
+use Rattle.desk.specs.Steps.{next_step, step_of}
 use Rattle.desk.proofs.Making.{accepts, refuses, made-sound}
 use Rattle.desk.proofs.Desk.accept.Statement.{statement}
 use Rattle.desk.proofs.Desk.accept.Tie as tie
@@ -28,18 +28,18 @@ refused desk refusal = record { verdict = Refused refusal; desk = desk }
 abbrev accepted : Desk → Answer
 accepted next = record { verdict = Accepted; desk = next }
 
-module _ (desk : Desk) (list : List ℕ) (refusal : ℕ) (e : refusal ≡ listRefusal desk.places list) where
-  refusing : (refusal ≡ 0 → ⊥) → refused desk refusal ≡ acceptOf baseRest desk list
-  refusing n = rw e (sym (refuses baseRest desk list (λ z. n (e ∙ z))))
+module _ (desk : Desk) (list : List ℕ) (refusal : ℕ) (e : refusal ≡ list_refusal desk.places list) where
+  refusing : (refusal ≡ 0 → ⊥) → refused desk refusal ≡ accept_of base_rest desk list
+  refusing n = rw e (sym (refuses base_rest desk list (λ z. n (e ∙ z))))
 
-  accepting : (next : Desk) → refusal ≡ 0 → next ≡ step_of baseRest desk list → accepted next ≡ acceptOf baseRest desk list
-  accepting next z s = rw s (sym (accepts baseRest desk list (sym e ∙ z)))
+  accepting : (next : Desk) → refusal ≡ 0 → next ≡ step_of base_rest desk list → accepted next ≡ accept_of base_rest desk list
+  accepting next z s = rw s (sym (accepts base_rest desk list (sym e ∙ z)))
 
 stepped : (desk : Desk) (list : List ℕ) (left : Remains) (seats : Seats)
-    → left ≡ remainsOf list (orderCount list) (nextStep desk.step) desk.places desk.ended
-    → seats ≡ seatedAll (isResting baseRest (nextStep desk.step) left.ended) list (record { places = left.places; last = desk.last }) (orderCount list)
-    → record { places = seats.places; ended = left.ended; last = seats.last; step = nextStep desk.step } ≡ step_of baseRest desk list
-unfolding step_of remainsOf
+    → left ≡ remains_of list (order_count list) (next_step desk.step) desk.places desk.ended
+    → seats ≡ seated_all (is_resting base_rest (next_step desk.step) left.ended) list (record { places = left.places; last = desk.last }) (order_count list)
+    → record { places = seats.places; ended = left.ended; last = seats.last; step = next_step desk.step } ≡ step_of base_rest desk list
+unfolding step_of remains_of
 stepped desk list left seats e s = rw (s, e) refl
 
 refusal-of-requires : tie.Need-refusal-of-requires

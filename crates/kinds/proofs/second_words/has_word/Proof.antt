@@ -6,29 +6,29 @@ use lib.Bits.{bit_and}
 use lib.Dec.{leb}
 use borrow.Author.Rules.{rules}
 use borrow.Author.Tests.{eq-eqb, ne_eqb, lt-ltb, le-leb, lt-leb}
-use Rattle.kinds.specs.SecondWords.{lookedIn, zerosIn, lowIn, highIn, typeIn, fits, hasWord}
+use Rattle.kinds.specs.SecondWords.{looked_in, zeros_in, low_in, high_in, type_in, fits, has_word}
 use Rattle.kinds.specs.declared.second_words.Row.{Row}
 use Rattle.kinds.proofs.second_words.has_word.Statement.{statement}
 use Rattle.kinds.proofs.second_words.has_word.Tie as tie
 
 -- what a row answers, test by test
 module _ (row : Row) (kind word : ℕ) where
-  other : (typeIn row ≡ kind → ⊥) → hasWord kind word row ≡ false
-  other t = rw (ne_eqb (typeIn row) kind t) refl
+  other : (type_in row ≡ kind → ⊥) → has_word kind word row ≡ false
+  other t = rw (ne_eqb (type_in row) kind t) refl
 
-  module _ (of : typeIn row ≡ kind) (small : word < 0x10000) where
-    unclear : (bit_and word (zerosIn row) ≡ 0 → ⊥) → hasWord kind word row ≡ false
+  module _ (of : type_in row ≡ kind) (small : word < 0x10000) where
+    unclear : (bit_and word (zeros_in row) ≡ 0 → ⊥) → has_word kind word row ≡ false
     unfolding fits
-    unclear z = rw (eq-eqb (typeIn row) kind of, lt-ltb word 0x10000 small, ne_eqb (bit_and word (zerosIn row)) 0 z) refl
+    unclear z = rw (eq-eqb (type_in row) kind of, lt-ltb word 0x10000 small, ne_eqb (bit_and word (zeros_in row)) 0 z) refl
 
-    module _ (clear : bit_and word (zerosIn row) ≡ 0) where
-      below : bit_and word (lookedIn row) < lowIn row → hasWord kind word row ≡ false
+    module _ (clear : bit_and word (zeros_in row) ≡ 0) where
+      below : bit_and word (looked_in row) < low_in row → has_word kind word row ≡ false
       unfolding fits
-      below l = rw (eq-eqb (typeIn row) kind of, lt-ltb word 0x10000 small, eq-eqb (bit_and word (zerosIn row)) 0 clear, lt-leb (lowIn row) (bit_and word (lookedIn row)) l) refl
+      below l = rw (eq-eqb (type_in row) kind of, lt-ltb word 0x10000 small, eq-eqb (bit_and word (zeros_in row)) 0 clear, lt-leb (low_in row) (bit_and word (looked_in row)) l) refl
 
-      within : lowIn row ≤ bit_and word (lookedIn row) → hasWord kind word row ≡ leb (bit_and word (lookedIn row)) (highIn row)
+      within : low_in row ≤ bit_and word (looked_in row) → has_word kind word row ≡ leb (bit_and word (looked_in row)) (high_in row)
       unfolding fits
-      within l = rw (eq-eqb (typeIn row) kind of, lt-ltb word 0x10000 small, eq-eqb (bit_and word (zerosIn row)) 0 clear, le-leb (lowIn row) (bit_and word (lookedIn row)) l) refl
+      within l = rw (eq-eqb (type_in row) kind of, lt-ltb word 0x10000 small, eq-eqb (bit_and word (zeros_in row)) 0 clear, le-leb (low_in row) (bit_and word (looked_in row)) l) refl
 
 returns : tie.Need-returns
 returns c = sym (other _ _ _ c.if1.true)

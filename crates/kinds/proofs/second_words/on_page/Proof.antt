@@ -8,8 +8,8 @@ use native.Mathlib.Omega.{arith}
 use borrow.Author.Rules.{rules}
 use Rattle.kit.specs.Loops.{any, scan}
 use Rattle.kit.proofs.Cases.{on}
-use Rattle.kit.proofs.Loops.{any-more, any-when}
-use Rattle.kinds.specs.SecondWords.{secondWords, is_of, hasWord, row_at, onPage}
+use Rattle.kit.proofs.Loops.{any-more, any_when}
+use Rattle.kinds.specs.SecondWords.{second_words, is_of, has_word, row_at, on_page}
 use Rattle.kinds.specs.declared.second_words.Row.{Row}
 use Rattle.kinds.proofs.second_words.on_page.Statement.{statement}
 use Rattle.kinds.proofs.second_words.on_page.Tie as tie
@@ -19,26 +19,26 @@ abbrev among : (Row → Bool) → ℕ → Bool
 among such n = any (λ i. such (row_at i)) 0 n
 
 -- the page has ten rows
-ten : length secondWords ≡ 10
-unfolding secondWords
+ten : length second_words ≡ 10
+unfolding second_words
 ten = refl
 
 -- a row that has the word, and the page's end without one
 module _ (kind word : ℕ) where
-  found : (i : ℕ) → i < 10 → hasWord kind word (row_at i) ≡ true → onPage kind word ≡ true
-  unfolding onPage
+  found : (i : ℕ) → i < 10 → has_word kind word (row_at i) ≡ true → on_page kind word ≡ true
+  unfolding on_page
   found i p e =
-      let some : among (hasWord kind word) (length secondWords) ≡ true = any-when (λ j. hasWord kind word (row_at j)) 0 (length secondWords) i (omega arith) (omega (arith, ten)) e in
-      on (not (among (is_of kind) (length secondWords))) (λ t. rw t refl) (λ t. rw (t, some) refl)
+      let some : among (has_word kind word) (length second_words) ≡ true = any_when (λ j. has_word kind word (row_at j)) 0 (length second_words) i (omega arith) (omega (arith, ten)) e in
+      on (not (among (is_of kind) (length second_words))) (λ t. rw t refl) (λ t. rw (t, some) refl)
 
-  unfound : (known : Bool) (i : ℕ) → 10 ≤ i → i ≤ 10 → known ≡ among (is_of kind) i → among (hasWord kind word) i ≡ false → not known ≡ onPage kind word
-  unfolding onPage
+  unfound : (known : Bool) (i : ℕ) → 10 ≤ i → i ≤ 10 → known ≡ among (is_of kind) i → among (has_word kind word) i ≡ false → not known ≡ on_page kind word
+  unfolding on_page
   unfound known i p q e none =
-      let end : i ≡ length secondWords = omega (arith, ten) in
-      rw (ap (among (is_of kind)) (sym end) ∙ sym e, ap (among (hasWord kind word)) (sym end) ∙ none) (on known (λ t. rw t refl) (λ t. rw t refl))
+      let end : i ≡ length second_words = omega (arith, ten) in
+      rw (ap (among (is_of kind)) (sym end) ∙ sym e, ap (among (has_word kind word)) (sym end) ∙ none) (on known (λ t. rw t refl) (λ t. rw t refl))
 
 abbrev invariant-loop : tie.invariant-loop
-invariant-loop kind word page known₀ i₀ known i = (i ≤ 10) × (known ≡ among (is_of kind) i) × (among (hasWord kind word) i ≡ false)
+invariant-loop kind word page known₀ i₀ known i = (i ≤ 10) × (known ≡ among (is_of kind) i) × (among (has_word kind word) i ≡ false)
 
 abbrev decreases-loop : tie.decreases-loop
 decreases-loop kind word page known₀ i₀ known i = 10 - i
@@ -57,7 +57,7 @@ has-word-requires : tie.Need-has-word-requires invariant-loop decreases-loop
 has-word-requires c κs = search rules
 
 returns : tie.Need-returns invariant-loop decreases-loop
-unfolding secondWords
+unfolding second_words
 returns c = sym (found _ _ c.before.before.before.before.loop.i (search rules) (sym c.before.Has-word.ensures ∙ c.if1.true))
 
 add-i : tie.Need-overflow-add-i invariant-loop decreases-loop
@@ -67,14 +67,14 @@ loop-less : tie.Need-loop-smaller invariant-loop decreases-loop
 loop-less c = search rules
 
 loop-again : tie.Need-loop-preserved invariant-loop decreases-loop
-unfolding secondWords
+unfolding second_words
 loop-again c =
     let l = c.before.before.before.before.before.loop in
     let a = c.before.before.before.before.before.before.args in
-    let unfit : hasWord a.kind a.word (row_at l.i) ≡ false = sym c.before.before.Has-word.ensures ∙ c.before.if1.false in (
+    let unfit : has_word a.kind a.word (row_at l.i) ≡ false = sym c.before.before.Has-word.ensures ∙ c.before.if1.false in (
       search rules,
       ap (λ known. known || is_of a.kind (row_at l.i)) l.invariant.1 ∙ sym (any-more (λ j. is_of a.kind (row_at j)) l.i),
-      any-more (λ j. hasWord a.kind a.word (row_at j)) l.i ∙ rw (l.invariant.2, unfit) refl,
+      any-more (λ j. has_word a.kind a.word (row_at j)) l.i ∙ rw (l.invariant.2, unfit) refl,
     )
 
 returns-2 : tie.Need-returns-2 invariant-loop decreases-loop

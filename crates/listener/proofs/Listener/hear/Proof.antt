@@ -2,9 +2,9 @@
 use mathlib.Core.Path.{sym, ap, ◌∙◌}
 use lib.ListN.{length-map}
 use Rattle.telegram.specs.Telegrams.{read_of}
-use Rattle.listener.specs.Answers.{toldOf}
-use Rattle.listener.specs.Listeners.{carries, hearOf}
-use Rattle.listener.specs.Lent.{listenerIn}
+use Rattle.listener.specs.Answers.{told_of}
+use Rattle.listener.specs.Listeners.{carries, hear_of}
+use Rattle.listener.specs.Lent.{listener_in}
 use Rattle.listener.proofs.Back.{Sized, means-back}
 use borrow.Author.Rules.{rules}
 use Rattle.listener.proofs.Listener.hear.Statement.{statement}
@@ -34,10 +34,10 @@ returns c =
       held = sym (length-map a.self.hand.held _) ∙ hand.1.0.1.0.1;
       set = sym (length-map a.self.hand.slots _) ∙ hand.1.1.0.1.0.1;
     } in
-    ap (λ l. record { told = toldOf heard.hear-in.result; listener = l }) c.listener-in.ensures
+    ap (λ l. record { told = told_of heard.hear-in.result; listener = l }) c.listener-in.ensures
     ∙ (heard.hear-in.ensures.meant
-    ∙ ap (λ l. hearOf carries l (read_of a.telegram.now))
-    (ap listenerIn made.memory-of.ensures ∙ means-back a.self sized))
+    ∙ ap (λ l. hear_of carries l (read_of a.telegram.now))
+    (ap listener_in made.memory-of.ensures ∙ means-back a.self sized))
 
 pub hear-spec : {M : Type 1} → statement M
 hear-spec = tie.close (tie.spec memory-of-requires hear-in-requires listener-in-requires returns)

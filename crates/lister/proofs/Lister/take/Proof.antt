@@ -1,6 +1,6 @@
 -- `take`: what the telegram in hand lacks, and then the rest.
 use native.Mathlib.Omega.{arith}
-use Rattle.lister.proofs.Phases.{here, lacks, two-parts, cut_inside, cut_fits, cut-begun}
+use Rattle.lister.proofs.Phases.{here, lacks, two_parts, cut_inside, cut_fits, cut-begun}
 use borrow.Author.Rules.{rules}
 use Rattle.lister.proofs.Lister.take.Statement.{statement}
 use Rattle.lister.proofs.Lister.take.Tie as tie
@@ -45,7 +45,7 @@ returns c =
     let taken = last.before.before.before.before.before.before in
     let start = taken.before.before.before.before.before.before in
     let inside = cut_inside start.args.self start.args.piece.now start.requires _ taken.before.before.before.lacking.ensures in
-    two-parts start.args.self start.args.piece.now _ inside taken.bite.ensures.0 taken.bite.ensures.1 last.take_rest.ensures.0 last.take_rest.ensures.1
+    two_parts start.args.self start.args.piece.now _ inside taken.bite.ensures.0 taken.bite.ensures.1 last.take_rest.ensures.0 last.take_rest.ensures.1
 
 pub take_spec : {M : Type 1} → statement M
 take_spec =

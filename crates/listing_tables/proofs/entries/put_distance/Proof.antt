@@ -2,9 +2,9 @@
 use mathlib.Core.Path.{ap, sym}
 use native.Mathlib.Omega.{arith}
 use Rattle.text.specs.Words.{blank}
-use Rattle.listing_words.specs.Words.{numberThen}
-use Rattle.page.proofs.Pages.{paged-as, paged-then, paged-most}
-use Rattle.listing_tables.proofs.Words.{distance_none, distance-signed}
+use Rattle.listing_words.specs.Words.{number_then}
+use Rattle.page.proofs.Pages.{paged_as, paged-then, paged-most}
+use Rattle.listing_tables.proofs.Words.{distance_none, distance_signed}
 use borrow.Author.Rules.{rules}
 use Rattle.listing_tables.proofs.entries.put_distance.Statement.{statement}
 use Rattle.listing_tables.proofs.entries.put_distance.Tie as tie
@@ -16,7 +16,7 @@ same_length : tie.Need-same-length
 same_length c = search rules
 
 returns : tie.Need-returns
-returns c = paged-as (distance_none _ c.before.before.before.before.if1.true) (paged-most (omega arith) c.before.before.put-none.ensures)
+returns c = paged_as (distance_none _ c.before.before.before.before.if1.true) (paged-most (omega arith) c.before.before.put_none_lem.ensures)
 
 put-byte-if-requires : tie.Need-put-byte-if-requires
 put-byte-if-requires c κs = search rules
@@ -34,7 +34,7 @@ returns-2 : tie.Need-returns-2
 returns-2 c =
     let sign = c.before.before.before.before.before.before.before.put-byte-if.ensures.paged (omega arith) in
     let metres = c.before.before.put-number.ensures.paged (omega arith) in
-    paged-as (distance-signed _ c.before.before.before.before.before.before.before.before.before.if1.false) (paged-then sign (paged-as (ap (λ n. numberThen n blank) (sym c.before.before.before.metres.ensures)) metres))
+    paged_as (distance_signed _ c.before.before.before.before.before.before.before.before.before.if1.false) (paged-then sign (paged_as (ap (λ n. number_then n blank) (sym c.before.before.before.metres.ensures)) metres))
 
 pub put-distance-spec : {M : Type 1} → statement M
 put-distance-spec =

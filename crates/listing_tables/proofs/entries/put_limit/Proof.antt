@@ -1,7 +1,7 @@
 -- `put_limit`: the test of the change distance decides.
 use native.Mathlib.Omega.{arith}
-use Rattle.page.proofs.Pages.{paged-as, paged-most}
-use Rattle.listing_tables.proofs.Words.{limit-none, limit-some}
+use Rattle.page.proofs.Pages.{paged_as, paged-most}
+use Rattle.listing_tables.proofs.Words.{limit_none, limit_some}
 use borrow.Author.Rules.{rules}
 use Rattle.listing_tables.proofs.entries.put_limit.Statement.{statement}
 use Rattle.listing_tables.proofs.entries.put_limit.Tie as tie
@@ -13,7 +13,7 @@ same_length : tie.Need-same-length
 same_length c = search rules
 
 returns : tie.Need-returns
-returns c = paged-as (limit-none _ _ c.before.before.before.before.if1.true) (paged-most (omega arith) c.before.before.put-none.ensures)
+returns c = paged_as (limit_none _ _ c.before.before.before.before.if1.true) (paged-most (omega arith) c.before.before.put_none_lem.ensures)
 
 put-number-requires : tie.Need-put-number-requires
 put-number-requires c κs = search rules
@@ -22,7 +22,7 @@ same-length-2 : tie.Need-same-length-2
 same-length-2 c = search rules
 
 returns-2 : tie.Need-returns-2
-returns-2 c = paged-as (limit-some _ _ c.before.before.before.before.if1.false) (c.before.before.put-number.ensures.paged (omega arith))
+returns-2 c = paged_as (limit_some _ _ c.before.before.before.before.if1.false) (c.before.before.put-number.ensures.paged (omega arith))
 
 pub put-limit-spec : {M : Type 1} → statement M
 put-limit-spec =

@@ -1,6 +1,6 @@
 -- `put_none`: the two bytes.
 use native.Mathlib.Omega.{arith}
-use Rattle.page.proofs.Pages.{paged-tight}
+use Rattle.page.proofs.Pages.{paged_tight}
 use borrow.Author.Rules.{rules}
 use Rattle.listing_tables.proofs.entries.put_none.Statement.{statement}
 use Rattle.listing_tables.proofs.entries.put_none.Tie as tie
@@ -15,7 +15,7 @@ same_length : tie.Need-same-length
 same_length c = search rules
 
 returns : tie.Need-returns
-returns c = paged-tight (omega arith) (c.before.before.put-short-text.ensures.paged (omega arith))
+returns c = paged_tight (omega arith) (c.before.before.put-short-text.ensures.paged (omega arith))
 
 pub put-none-spec : {M : Type 1} → statement M
 put-none-spec =

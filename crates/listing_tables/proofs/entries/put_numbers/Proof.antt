@@ -1,8 +1,8 @@
 -- `put_numbers`: three numbers, one after another.
 use native.Mathlib.Omega.{arith}
 use Rattle.text.specs.Words.{blank}
-use Rattle.page.proofs.Packed.{byte-then}
-use Rattle.page.proofs.Pages.{paged-then, paged-tight}
+use Rattle.page.proofs.Packed.{byte_then}
+use Rattle.page.proofs.Pages.{paged-then, paged_tight}
 use borrow.Author.Rules.{rules}
 use Rattle.listing_tables.proofs.entries.put_numbers.Statement.{statement}
 use Rattle.listing_tables.proofs.entries.put_numbers.Tie as tie
@@ -23,7 +23,7 @@ returns : tie.Need-returns
 returns c =
     let start = c.before.before.before.before.before.before.before.before.before.before.before.before.before in
     let place = c.before.before.before.before.before.before.before.before.before.before.put-short-number.ensures.paged (omega arith) in
-    let number = paged-tight {y = 4} (byte-then start.args.number blank start.ranges.number.fits) (c.before.before.before.before.before.before.put-number.ensures.paged (omega arith)) in
+    let number = paged_tight {y = 4} (byte_then start.args.number blank start.ranges.number.fits) (c.before.before.before.before.before.before.put-number.ensures.paged (omega arith)) in
     let kind = c.before.before.put-short-number2.ensures.paged (omega arith) in
     paged-then place (paged-then number kind)
 

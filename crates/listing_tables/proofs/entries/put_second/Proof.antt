@@ -3,8 +3,8 @@ use mathlib.Core.Path.{ap}
 use mathlib.Core.List.{[], ◌∷◌, ◌++◌}
 use native.Mathlib.Omega.{arith}
 use Rattle.text.specs.Words.{blank}
-use Rattle.listing_seconds.specs.Seconds.{secondWord}
-use Rattle.page.proofs.Pages.{paged-as, paged-most}
+use Rattle.listing_seconds.specs.Seconds.{second_word}
+use Rattle.page.proofs.Pages.{paged_as, paged-most}
 use borrow.Author.Rules.{rules}
 use Rattle.listing_tables.proofs.entries.put_second.Statement.{statement}
 use Rattle.listing_tables.proofs.entries.put_second.Tie as tie
@@ -37,25 +37,25 @@ same_length : tie.Need-same-length
 same_length c = search rules
 
 returns : tie.Need-returns
-returns c = paged-as (ap (λ body. secondWord body ++ (blank ∷ [])) c.before.before.before.before.enum_told.given.1) (paged-most (omega arith) (c.before.before.put_byte.ensures.paged (omega arith)))
+returns c = paged_as (ap (λ body. second_word body ++ (blank ∷ [])) c.before.before.before.before.enum_told.given.1) (paged-most (omega arith) (c.before.before.put_byte.ensures.paged (omega arith)))
 
 same-length-2 : tie.Need-same-length-2
 same-length-2 c = search rules
 
 returns-2 : tie.Need-returns-2
-returns-2 c = paged-as (ap (λ body. secondWord body ++ (blank ∷ [])) c.before.before.before.before.before.body.given.1) (paged-most (omega arith) c.before.before.put-distance.ensures)
+returns-2 c = paged_as (ap (λ body. second_word body ++ (blank ∷ [])) c.before.before.before.before.before.body.given.1) (paged-most (omega arith) c.before.before.put-distance.ensures)
 
 same-length-3 : tie.Need-same-length-3
 same-length-3 c = search rules
 
 returns-3 : tie.Need-returns-3
-returns-3 c = paged-as (ap (λ body. secondWord body ++ (blank ∷ [])) c.before.before.before.before.before.body2.given.1) (paged-most (omega arith) c.before.before.put-system.ensures)
+returns-3 c = paged_as (ap (λ body. second_word body ++ (blank ∷ [])) c.before.before.before.before.before.body2.given.1) (paged-most (omega arith) c.before.before.put-system.ensures)
 
 same-length-4 : tie.Need-same-length-4
 same-length-4 c = search rules
 
 returns-4 : tie.Need-returns-4
-returns-4 c = paged-as (ap (λ body. secondWord body ++ (blank ∷ [])) c.before.before.before.before.before.body3.given.1) (paged-most (omega arith) c.before.before.put-limit.ensures)
+returns-4 c = paged_as (ap (λ body. second_word body ++ (blank ∷ [])) c.before.before.before.before.before.body3.given.1) (paged-most (omega arith) c.before.before.put-limit.ensures)
 
 pub put-second-spec : {M : Type 1} → statement M
 put-second-spec =

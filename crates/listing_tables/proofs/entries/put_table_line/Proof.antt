@@ -1,9 +1,9 @@
 -- `put_table_line`: the word and three numbers, one after another.
 use native.Mathlib.Omega.{arith}
-use Rattle.listing_lines.specs.Lines.{tableLine}
+use Rattle.listing_lines.specs.Lines.{table_line}
 use Rattle.text.specs.Words.{blank}
-use Rattle.page.proofs.Packed.{byte-then}
-use Rattle.page.proofs.Pages.{paged-then, paged-tight}
+use Rattle.page.proofs.Packed.{byte_then}
+use Rattle.page.proofs.Pages.{paged-then, paged_tight}
 use borrow.Author.Rules.{rules}
 use Rattle.listing_tables.proofs.entries.put_table_line.Statement.{statement}
 use Rattle.listing_tables.proofs.entries.put_table_line.Tie as tie
@@ -27,12 +27,12 @@ same_length : tie.Need-same-length
 same_length c = search rules
 
 returns : tie.Need-returns
-unfolding tableLine
+unfolding table_line
 returns c =
     let start = c.before.before.before.before.before.before.before.before.before.before.before.before.before.before.before.before.before.before in
-    let word = paged-tight {y = 6} (omega arith) (c.before.before.before.before.before.before.before.before.before.before.before.before.before.before.put-short-text.ensures.paged (omega arith)) in
+    let word = paged_tight {y = 6} (omega arith) (c.before.before.before.before.before.before.before.before.before.before.before.before.before.before.put-short-text.ensures.paged (omega arith)) in
     let step = c.before.before.before.before.before.before.before.before.before.before.put-number.ensures.paged (omega arith) in
-    let count = paged-tight {y = 4} (byte-then start.args.count blank start.ranges.count.fits) (c.before.before.before.before.before.before.put-number2.ensures.paged (omega arith)) in
+    let count = paged_tight {y = 4} (byte_then start.args.count blank start.ranges.count.fits) (c.before.before.before.before.before.before.put-number2.ensures.paged (omega arith)) in
     let gap = c.before.before.put-number3.ensures.paged (omega arith) in
     paged-then word (paged-then step (paged-then count gap))
 

@@ -1,6 +1,6 @@
 -- `put_answer`: by the variant that the `match` found.
 use mathlib.Core.Path.{ap}
-use Rattle.kit.proofs.Put.{poured-as}
+use Rattle.kit.proofs.Put.{poured_as}
 use Rattle.program.specs.Answers.{answer_of}
 use borrow.Author.Rules.{rules}
 use Rattle.program.proofs.answers.put_answer.Statement.{statement}
@@ -55,31 +55,31 @@ same_length : tie.Need-same-length
 same_length c = search rules
 
 returns : tie.Need-returns
-returns c = poured-as (ap (λ t. answer_of c.before.before.before.before.before.before.before.before.before.args.program t c.before.before.before.before.before.before.before.before.before.args.word.now) c.before.before.before.before.before.enum_told.given.1) c.before.before.put-words.ensures
+returns c = poured_as (ap (λ t. answer_of c.before.before.before.before.before.before.before.before.before.args.program t c.before.before.before.before.before.before.before.before.before.args.word.now) c.before.before.before.before.before.enum_told.given.1) c.before.before.put-words.ensures
 
 same-length-2 : tie.Need-same-length-2
 same-length-2 c = search rules
 
 returns-2 : tie.Need-returns-2
-returns-2 c = poured-as (ap (λ t. answer_of c.before.before.before.before.before.before.before.before.args.program t c.before.before.before.before.before.before.before.before.args.word.now) c.before.before.before.before.enum-told2.given.1) c.before.before.put-help.ensures
+returns-2 c = poured_as (ap (λ t. answer_of c.before.before.before.before.before.before.before.before.args.program t c.before.before.before.before.before.before.before.before.args.word.now) c.before.before.before.before.enum-told2.given.1) c.before.before.put-help.ensures
 
 same-length-3 : tie.Need-same-length-3
 same-length-3 c = search rules
 
 returns-3 : tie.Need-returns-3
-returns-3 c = poured-as (ap (λ t. answer_of c.before.before.before.before.before.before.before.before.args.program t c.before.before.before.before.before.before.before.before.args.word.now) c.before.before.before.before.enum-told3.given.1) c.before.before.put-version.ensures
+returns-3 c = poured_as (ap (λ t. answer_of c.before.before.before.before.before.before.before.before.args.program t c.before.before.before.before.before.before.before.before.args.word.now) c.before.before.before.before.enum-told3.given.1) c.before.before.put-version.ensures
 
 same-length-4 : tie.Need-same-length-4
 same-length-4 c = search rules
 
 returns-4 : tie.Need-returns-4
-returns-4 c = poured-as (ap (λ t. answer_of c.before.before.before.before.before.before.before.before.before.before.args.program t c.before.before.before.before.before.before.before.before.before.before.args.word.now) c.before.before.before.before.before.before.enum-told4.given.1) c.before.before.put-complaint.ensures
+returns-4 c = poured_as (ap (λ t. answer_of c.before.before.before.before.before.before.before.before.before.before.args.program t c.before.before.before.before.before.before.before.before.before.before.args.word.now) c.before.before.before.before.before.before.enum-told4.given.1) c.before.before.put-complaint.ensures
 
 same-length-5 : tie.Need-same-length-5
 same-length-5 c = search rules
 
 returns-5 : tie.Need-returns-5
-returns-5 c = poured-as (ap (λ t. answer_of c.before.before.before.before.before.before.before.before.before.before.args.program t c.before.before.before.before.before.before.before.before.before.before.args.word.now) c.before.before.before.before.before.before.enum-told5.given.1) c.before.before.put-complaint2.ensures
+returns-5 c = poured_as (ap (λ t. answer_of c.before.before.before.before.before.before.before.before.before.before.args.program t c.before.before.before.before.before.before.before.before.before.before.args.word.now) c.before.before.before.before.before.before.enum-told5.given.1) c.before.before.put-complaint2.ensures
 
 pub put-answer-spec : {M : Type 1} → statement M
 put-answer-spec =

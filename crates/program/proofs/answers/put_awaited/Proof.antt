@@ -1,7 +1,7 @@
 -- `put_awaited`: by the variant that the `match` found.
 use mathlib.Core.Path.{ap}
-use Rattle.kit.proofs.Put.{poured-as}
-use Rattle.program.specs.Answers.{awaitedOf}
+use Rattle.kit.proofs.Put.{poured_as}
+use Rattle.program.specs.Answers.{awaited_of}
 use borrow.Author.Rules.{rules}
 use Rattle.program.proofs.answers.put_awaited.Statement.{statement}
 use Rattle.program.proofs.answers.put_awaited.Tie as tie
@@ -37,19 +37,19 @@ same_length : tie.Need-same-length
 same_length c = search rules
 
 returns : tie.Need-returns
-returns c = poured-as (ap awaitedOf c.before.before.before.before.before.enum_told.given.1) c.before.before.put-words.ensures
+returns c = poured_as (ap awaited_of c.before.before.before.before.before.enum_told.given.1) c.before.before.put-words.ensures
 
 same-length-2 : tie.Need-same-length-2
 same-length-2 c = search rules
 
 returns-2 : tie.Need-returns-2
-returns-2 c = poured-as (ap awaitedOf c.before.before.before.before.before.enum-told2.given.1) c.before.before.put-words2.ensures
+returns-2 c = poured_as (ap awaited_of c.before.before.before.before.before.enum-told2.given.1) c.before.before.put-words2.ensures
 
 same-length-3 : tie.Need-same-length-3
 same-length-3 c = search rules
 
 returns-3 : tie.Need-returns-3
-returns-3 c = poured-as (ap awaitedOf c.before.before.before.before.before.enum-told3.given.1) c.before.before.put-words3.ensures
+returns-3 c = poured_as (ap awaited_of c.before.before.before.before.before.enum-told3.given.1) c.before.before.put-words3.ensures
 
 pub put-awaited-spec : {M : Type 1} → statement M
 put-awaited-spec =

@@ -1,6 +1,6 @@
 -- `put_awaiting`: the name and what is awaited.
 use Rattle.kit.proofs.Put.{poured-then}
-use Rattle.program.specs.Answers.{awaitingLine}
+use Rattle.program.specs.Answers.{awaiting_line}
 use borrow.Author.Rules.{rules}
 use Rattle.program.proofs.answers.put_awaiting.Statement.{statement}
 use Rattle.program.proofs.answers.put_awaiting.Tie as tie
@@ -27,7 +27,7 @@ same_length : tie.Need-same-length
 same_length c = search rules
 
 returns : tie.Need-returns
-unfolding awaitingLine
+unfolding awaiting_line
 returns c = poured-then c.before.before.before.before.before.before.before.before.before.before.before.before.before.before.before.before.put-name.ensures (poured-then c.before.before.before.before.before.before.before.before.before.before.before.put-words.ensures (poured-then c.before.before.before.before.before.before.before.put-awaited.ensures c.before.before.put-words2.ensures))
 
 pub put-awaiting-spec : {M : Type 1} → statement M

@@ -1,6 +1,6 @@
 -- `put_complaint`: the name and the three texts.
 use Rattle.kit.proofs.Put.{poured-then}
-use Rattle.program.specs.Answers.{complaintOf}
+use Rattle.program.specs.Answers.{complaint_of}
 use borrow.Author.Rules.{rules}
 use Rattle.program.proofs.answers.put_complaint.Statement.{statement}
 use Rattle.program.proofs.answers.put_complaint.Tie as tie
@@ -21,7 +21,7 @@ same_length : tie.Need-same-length
 same_length c = search rules
 
 returns : tie.Need-returns
-unfolding complaintOf
+unfolding complaint_of
 returns c = poured-then c.before.before.before.before.before.before.before.before.before.before.before.before.before.before.put-name.ensures (poured-then c.before.before.before.before.before.before.before.before.before.before.put-words.ensures (poured-then c.before.before.before.before.before.before.put-words2.ensures c.before.before.put-words3.ensures))
 
 pub put-complaint-spec : {M : Type 1} → statement M

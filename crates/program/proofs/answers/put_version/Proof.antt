@@ -1,6 +1,6 @@
 -- `put_version`: the name and the version.
 use Rattle.kit.proofs.Put.{poured-then}
-use Rattle.program.specs.Answers.{versionLine}
+use Rattle.program.specs.Answers.{version_line}
 use borrow.Author.Rules.{rules}
 use Rattle.program.proofs.answers.put_version.Statement.{statement}
 use Rattle.program.proofs.answers.put_version.Tie as tie
@@ -18,7 +18,7 @@ same_length : tie.Need-same-length
 same_length c = search rules
 
 returns : tie.Need-returns
-unfolding versionLine
+unfolding version_line
 returns c = poured-then c.before.before.before.before.before.before.before.put-name.ensures c.before.before.put-words.ensures
 
 pub put-version-spec : {M : Type 1} → statement M

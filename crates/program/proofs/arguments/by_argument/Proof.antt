@@ -1,6 +1,6 @@
 -- `by_argument`: by the variant that the `match` found.
 use mathlib.Core.Path.{sym, ap, ◌∙◌}
-use Rattle.program.specs.Arguments.{byArgument}
+use Rattle.program.specs.Arguments.{by_argument}
 use borrow.Author.Rules.{rules}
 use Rattle.program.proofs.arguments.by_argument.Statement.{statement}
 use Rattle.program.proofs.arguments.by_argument.Tie as tie
@@ -48,25 +48,25 @@ with-input-requires-2 : tie.Need-with-input-requires-2
 with-input-requires-2 c κs = search rules
 
 returns : tie.Need-returns
-returns c = c.with-input.ensures ∙ sym (ap (λ a. byArgument c.before.before.before.args.program c.before.before.before.args.asked a c.before.before.before.args.at) c.before.enum_told.given.1)
+returns c = c.with-input.ensures ∙ sym (ap (λ a. by_argument c.before.before.before.args.program c.before.before.before.args.asked a c.before.before.before.args.at) c.before.enum_told.given.1)
 
 returns-2 : tie.Need-returns-2
-returns-2 c = c.decided.ensures ∙ sym (ap (λ a. byArgument c.before.before.before.args.program c.before.before.before.args.asked a c.before.before.before.args.at) c.before.enum-told2.given.1)
+returns-2 c = c.decided.ensures ∙ sym (ap (λ a. by_argument c.before.before.before.args.program c.before.before.before.args.asked a c.before.before.before.args.at) c.before.enum-told2.given.1)
 
 returns-3 : tie.Need-returns-3
-returns-3 c = c.decided2.ensures ∙ sym (ap (λ a. byArgument c.before.before.before.args.program c.before.before.before.args.asked a c.before.before.before.args.at) c.before.enum-told3.given.1)
+returns-3 c = c.decided2.ensures ∙ sym (ap (λ a. by_argument c.before.before.before.args.program c.before.before.before.args.asked a c.before.before.before.args.at) c.before.enum-told3.given.1)
 
 returns-4 : tie.Need-returns-4
-returns-4 c = c.with-summary.ensures ∙ sym (ap (λ a. byArgument c.before.before.before.args.program c.before.before.before.args.asked a c.before.before.before.args.at) c.before.enum-told4.given.1)
+returns-4 c = c.with-summary.ensures ∙ sym (ap (λ a. by_argument c.before.before.before.args.program c.before.before.before.args.asked a c.before.before.before.args.at) c.before.enum-told4.given.1)
 
 returns-5 : tie.Need-returns-5
-returns-5 c = c.with-progress.ensures ∙ sym (ap (λ a. byArgument c.before.before.before.args.program c.before.before.before.args.asked a c.before.before.before.args.at) c.before.enum-told5.given.1)
+returns-5 c = c.with-progress.ensures ∙ sym (ap (λ a. by_argument c.before.before.before.args.program c.before.before.before.args.asked a c.before.before.before.args.at) c.before.enum-told5.given.1)
 
 returns-6 : tie.Need-returns-6
-returns-6 c = c.decided3.ensures ∙ sym (ap (λ a. byArgument c.before.before.before.args.program c.before.before.before.args.asked a c.before.before.before.args.at) c.before.enum-told6.given.1)
+returns-6 c = c.decided3.ensures ∙ sym (ap (λ a. by_argument c.before.before.before.args.program c.before.before.before.args.asked a c.before.before.before.args.at) c.before.enum-told6.given.1)
 
 returns-7 : tie.Need-returns-7
-returns-7 c = c.with-input2.ensures ∙ sym (ap (λ a. byArgument c.before.before.before.args.program c.before.before.before.args.asked a c.before.before.before.args.at) c.before.enum-told7.given.1)
+returns-7 c = c.with-input2.ensures ∙ sym (ap (λ a. by_argument c.before.before.before.args.program c.before.before.before.args.asked a c.before.before.before.args.at) c.before.enum-told7.given.1)
 
 pub by-argument-spec : {M : Type 1} → statement M
 by-argument-spec =

@@ -5,13 +5,13 @@ use mathlib.Core.List.{List, [], ◌∷◌}
 use Prim.Native.Nat.{ℕ}
 use lib.ListN.{length}
 use native.Mathlib.Omega.{arith}
-use Rattle.program.specs.Arguments.{isOption}
+use Rattle.program.specs.Arguments.{is_option}
 use borrow.Author.Rules.{rules}
 use Rattle.program.proofs.arguments.is_option.Statement.{statement}
 use Rattle.program.proofs.arguments.is_option.Tie as tie
 
-none : (text : List ℕ) → length text ≡ 0 → false ≡ isOption text
-unfolding isOption
+none : (text : List ℕ) → length text ≡ 0 → false ≡ is_option text
+unfolding is_option
 none [] e = refl
 none (byte ∷ text) e = absurd (omega (arith, e))
 
@@ -22,7 +22,7 @@ shared-slice-read-result : tie.Need-shared-slice-read-result
 shared-slice-read-result c = search rules
 
 returns-2 : tie.Need-returns-2
-unfolding isOption
+unfolding is_option
 returns-2 c = search rules
 
 pub is-option-spec : {M : Type 1} → statement M

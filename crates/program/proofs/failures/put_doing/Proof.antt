@@ -1,6 +1,6 @@
 -- `put_doing`: the name and what was being done.
 use Rattle.kit.proofs.Put.{poured-then}
-use Rattle.program.specs.Failures.{doingText}
+use Rattle.program.specs.Failures.{doing_text}
 use borrow.Author.Rules.{rules}
 use Rattle.program.proofs.failures.put_doing.Statement.{statement}
 use Rattle.program.proofs.failures.put_doing.Tie as tie
@@ -21,7 +21,7 @@ same_length : tie.Need-same-length
 same_length c = search rules
 
 returns : tie.Need-returns
-unfolding doingText
+unfolding doing_text
 returns c = poured-then c.before.before.before.before.before.before.before.before.before.before.before.put-name.ensures (poured-then c.before.before.before.before.before.before.put-words.ensures c.before.before.put-words-of.ensures)
 
 pub put-doing-spec : {M : Type 1} → statement M

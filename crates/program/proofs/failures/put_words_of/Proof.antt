@@ -1,7 +1,7 @@
 -- `put_words_of`: by the variant that the `match` found.
 use mathlib.Core.Path.{ap}
-use Rattle.kit.proofs.Put.{poured-then, poured-as}
-use Rattle.program.specs.Failures.{doingWords}
+use Rattle.kit.proofs.Put.{poured-then, poured_as}
+use Rattle.program.specs.Failures.{doing_words}
 use borrow.Author.Rules.{rules}
 use Rattle.program.proofs.failures.put_words_of.Statement.{statement}
 use Rattle.program.proofs.failures.put_words_of.Tie as tie
@@ -70,37 +70,37 @@ same_length : tie.Need-same-length
 same_length c = search rules
 
 returns : tie.Need-returns
-returns c = poured-as (ap (λ d. doingWords d c.before.before.before.before.before.before.before.before.before.args.name.now) c.before.before.before.before.before.enum_told.given.1) c.before.before.put-words.ensures
+returns c = poured_as (ap (λ d. doing_words d c.before.before.before.before.before.before.before.before.before.args.name.now) c.before.before.before.before.before.enum_told.given.1) c.before.before.put-words.ensures
 
 same-length-2 : tie.Need-same-length-2
 same-length-2 c = search rules
 
 returns-2 : tie.Need-returns-2
-returns-2 c = poured-as (ap (λ d. doingWords d c.before.before.before.before.before.before.before.before.before.before.before.before.before.args.name.now) c.before.before.before.before.before.before.before.before.before.enum-told2.given.1) (poured-then c.before.before.before.before.before.before.put-words2.ensures c.before.before.put-words3.ensures)
+returns-2 c = poured_as (ap (λ d. doing_words d c.before.before.before.before.before.before.before.before.before.before.before.before.before.args.name.now) c.before.before.before.before.before.before.before.before.before.enum-told2.given.1) (poured-then c.before.before.before.before.before.before.put-words2.ensures c.before.before.put-words3.ensures)
 
 same-length-3 : tie.Need-same-length-3
 same-length-3 c = search rules
 
 returns-3 : tie.Need-returns-3
-returns-3 c = poured-as (ap (λ d. doingWords d c.before.before.before.before.before.before.before.before.before.before.before.before.before.args.name.now) c.before.before.before.before.before.before.before.before.before.enum-told3.given.1) (poured-then c.before.before.before.before.before.before.put-words4.ensures c.before.before.put-words5.ensures)
+returns-3 c = poured_as (ap (λ d. doing_words d c.before.before.before.before.before.before.before.before.before.before.before.before.before.args.name.now) c.before.before.before.before.before.before.before.before.before.enum-told3.given.1) (poured-then c.before.before.before.before.before.before.put-words4.ensures c.before.before.put-words5.ensures)
 
 same-length-4 : tie.Need-same-length-4
 same-length-4 c = search rules
 
 returns-4 : tie.Need-returns-4
-returns-4 c = poured-as (ap (λ d. doingWords d c.before.before.before.before.before.before.before.before.before.args.name.now) c.before.before.before.before.before.enum-told4.given.1) c.before.before.put-words6.ensures
+returns-4 c = poured_as (ap (λ d. doing_words d c.before.before.before.before.before.before.before.before.before.args.name.now) c.before.before.before.before.before.enum-told4.given.1) c.before.before.put-words6.ensures
 
 same-length-5 : tie.Need-same-length-5
 same-length-5 c = search rules
 
 returns-5 : tie.Need-returns-5
-returns-5 c = poured-as (ap (λ d. doingWords d c.before.before.before.before.before.before.before.before.before.args.name.now) c.before.before.before.before.before.enum-told5.given.1) c.before.before.put-words7.ensures
+returns-5 c = poured_as (ap (λ d. doing_words d c.before.before.before.before.before.before.before.before.before.args.name.now) c.before.before.before.before.before.enum-told5.given.1) c.before.before.put-words7.ensures
 
 same-length-6 : tie.Need-same-length-6
 same-length-6 c = search rules
 
 returns-6 : tie.Need-returns-6
-returns-6 c = poured-as (ap (λ d. doingWords d c.before.before.before.before.before.before.before.before.before.args.name.now) c.before.before.before.before.before.enum-told6.given.1) c.before.before.put-words8.ensures
+returns-6 c = poured_as (ap (λ d. doing_words d c.before.before.before.before.before.before.before.before.before.args.name.now) c.before.before.before.before.before.enum-told6.given.1) c.before.before.put-words8.ensures
 
 pub put-words-of-spec : {M : Type 1} → statement M
 put-words-of-spec =

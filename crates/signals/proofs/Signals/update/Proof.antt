@@ -2,8 +2,8 @@
 use mathlib.Core.Bool.{Bool}
 use mathlib.Core.Path.{sym, ap, ◌∙◌}
 use borrow.Author.Tests.{not-true, not-false}
-use Rattle.signals.specs.Answers.{absence, refusalUnder}
-use Rattle.signals.specs.Signals.{updateOf}
+use Rattle.signals.specs.Answers.{absence, refusal_under}
+use Rattle.signals.specs.Signals.{update_of}
 use Rattle.signals.specs.declared.Signals.{Signals}
 use Rattle.signals.proofs.Updating.{update-missed, update-refused, update-accepted}
 use borrow.Author.Rules.{rules}
@@ -17,7 +17,7 @@ returns : tie.Need-returns
 returns c =
     let a = c.before.before.before.args in
     ap (λ (s : Signals). record { noted = absence; signals = s }) c.missed.ensures
-    ∙ (sym (update-missed a.self a.telegram.now) ∙ ap (λ (p : Bool). updateOf a.self p a.telegram.now) (sym (not-true a.present c.before.if1.true)))
+    ∙ (sym (update-missed a.self a.telegram.now) ∙ ap (λ (p : Bool). update_of a.self p a.telegram.now) (sym (not-true a.present c.before.if1.true)))
 
 read-requires : tie.Need-read-requires
 read-requires c κs = search rules
@@ -35,16 +35,16 @@ returns-2 : tie.Need-returns-2
 returns-2 c =
     let reader = c.before.before.before.before.before in
     let a = reader.before.before.before.args in
-    ap (λ (s : Signals). record { noted = refusalUnder c.before.before.verdict.given.0.0; signals = s }) c.missed2.ensures
+    ap (λ (s : Signals). record { noted = refusal_under c.before.before.verdict.given.0.0; signals = s }) c.missed2.ensures
     ∙ (sym (update-refused a.self a.telegram.now reader.read.result reader.read.ensures _ c.before.before.verdict.given.1)
-    ∙ ap (λ (p : Bool). updateOf a.self p a.telegram.now) (sym (not-false a.present reader.before.if1.false)))
+    ∙ ap (λ (p : Bool). update_of a.self p a.telegram.now) (sym (not-false a.present reader.before.if1.false)))
 
 returns-3 : tie.Need-returns-3
 returns-3 c =
     let reader = c.before.before.before in
     let a = reader.before.before.before.args in
     sym (update-accepted a.self a.telegram.now reader.read.result reader.read.ensures c.enum_told.given.1)
-    ∙ ap (λ (p : Bool). updateOf a.self p a.telegram.now) (sym (not-false a.present reader.before.if1.false))
+    ∙ ap (λ (p : Bool). update_of a.self p a.telegram.now) (sym (not-false a.present reader.before.if1.false))
 
 pub update-spec : {M : Type 1} → statement M
 update-spec =

@@ -1,8 +1,8 @@
 -- `isolation_word`: the word of the state that the `match` found.
 use mathlib.Core.Path.{sym, ap, ◌∙◌}
-use Rattle.page.specs.Packed.{low_bytes, numberMade}
-use Rattle.page.specs.Words.{bytesOfWord, packedWord}
-use Rattle.state_words.specs.Words.{isolationWord}
+use Rattle.page.specs.Packed.{low_bytes, number_made}
+use Rattle.page.specs.Words.{bytes_of_word, packed_word}
+use Rattle.state_words.specs.Words.{isolation_word}
 use borrow.Author.Rules.{rules}
 use Rattle.signals_output.proofs.words.isolation_word.Statement.{statement}
 use Rattle.signals_output.proofs.words.isolation_word.Tie as tie
@@ -44,20 +44,20 @@ word-of-requires-4 : tie.Need-word-of-requires-4
 word-of-requires-4 c κs = search rules
 
 returns : tie.Need-returns
-unfolding bytesOfWord packedWord numberMade low_bytes
-returns c = ap bytesOfWord c.word_of.ensures ∙ sym (ap isolationWord c.before.before.enum_told.given.1)
+unfolding bytes_of_word packed_word number_made low_bytes
+returns c = ap bytes_of_word c.word_of.ensures ∙ sym (ap isolation_word c.before.before.enum_told.given.1)
 
 returns-2 : tie.Need-returns-2
-unfolding bytesOfWord packedWord numberMade low_bytes
-returns-2 c = ap bytesOfWord c.word-of2.ensures ∙ sym (ap isolationWord c.before.before.enum-told2.given.1)
+unfolding bytes_of_word packed_word number_made low_bytes
+returns-2 c = ap bytes_of_word c.word-of2.ensures ∙ sym (ap isolation_word c.before.before.enum-told2.given.1)
 
 returns-3 : tie.Need-returns-3
-unfolding bytesOfWord packedWord numberMade low_bytes
-returns-3 c = ap bytesOfWord c.word-of3.ensures ∙ sym (ap isolationWord c.before.before.enum-told3.given.1)
+unfolding bytes_of_word packed_word number_made low_bytes
+returns-3 c = ap bytes_of_word c.word-of3.ensures ∙ sym (ap isolation_word c.before.before.enum-told3.given.1)
 
 returns-4 : tie.Need-returns-4
-unfolding bytesOfWord packedWord numberMade low_bytes
-returns-4 c = ap bytesOfWord c.word-of4.ensures ∙ sym (ap isolationWord c.before.before.enum-told4.given.1)
+unfolding bytes_of_word packed_word number_made low_bytes
+returns-4 c = ap bytes_of_word c.word-of4.ensures ∙ sym (ap isolation_word c.before.before.enum-told4.given.1)
 
 pub isolation-word-spec : {M : Type 1} → statement M
 isolation-word-spec =

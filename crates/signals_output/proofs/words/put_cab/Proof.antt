@@ -1,7 +1,7 @@
 -- `put_cab`: the word's bytes.
 use mathlib.Core.Path.{sym}
 use native.Mathlib.Omega.{arith}
-use Rattle.page.proofs.Pages.{paged-as}
+use Rattle.page.proofs.Pages.{paged_as}
 use borrow.Author.Rules.{rules}
 use Rattle.signals_output.proofs.words.put_cab.Statement.{statement}
 use Rattle.signals_output.proofs.words.put_cab.Tie as tie
@@ -16,7 +16,7 @@ same_length : tie.Need-same-length
 same_length c = search rules
 
 returns : tie.Need-returns
-returns c = paged-as (sym c.before.before.before.cab-word.ensures) (c.before.before.put_word.ensures.paged (omega arith))
+returns c = paged_as (sym c.before.before.before.cab-word.ensures) (c.before.before.put_word.ensures.paged (omega arith))
 
 pub put-cab-spec : {M : Type 1} → statement M
 put-cab-spec = tie.close (tie.spec cab-word-requires put-word-requires same_length returns)

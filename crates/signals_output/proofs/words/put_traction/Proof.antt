@@ -1,8 +1,8 @@
 -- `put_traction`: silent, or a blank and eight digits.
 use mathlib.Core.Path.{ap}
 use native.Mathlib.Omega.{arith}
-use Rattle.page.proofs.Pages.{paged-as, paged-then, paged-most}
-use Rattle.state_words.specs.Words.{tractionWord}
+use Rattle.page.proofs.Pages.{paged_as, paged-then, paged-most}
+use Rattle.state_words.specs.Words.{traction_word}
 use borrow.Author.Rules.{rules}
 use Rattle.signals_output.proofs.words.put_traction.Statement.{statement}
 use Rattle.signals_output.proofs.words.put_traction.Tie as tie
@@ -29,7 +29,7 @@ same_length : tie.Need-same-length
 same_length c = search rules
 
 returns : tie.Need-returns
-returns c = paged-as (ap tractionWord c.before.before.before.before.before.enum_told.given.1) (paged-most (omega arith) (c.before.before.put-short-text.ensures.paged (omega arith)))
+returns c = paged_as (ap traction_word c.before.before.before.before.before.enum_told.given.1) (paged-most (omega arith) (c.before.before.put-short-text.ensures.paged (omega arith)))
 
 same-length-2 : tie.Need-same-length-2
 same-length-2 c = search rules
@@ -38,7 +38,7 @@ returns-2 : tie.Need-returns-2
 returns-2 c =
     let first = c.before.before.before.before.before.before.put_byte.ensures.paged (omega arith) in
     let second = c.before.before.put-hexadecimal.ensures.paged (omega arith) in
-    paged-as (ap tractionWord c.before.before.before.before.before.before.before.before.before.traction.given.1) (paged-most (omega arith) (paged-then first second))
+    paged_as (ap traction_word c.before.before.before.before.before.before.before.before.before.traction.given.1) (paged-most (omega arith) (paged-then first second))
 
 pub put-traction-spec : {M : Type 1} → statement M
 put-traction-spec =

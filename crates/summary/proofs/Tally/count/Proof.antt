@@ -1,6 +1,6 @@
 -- `Tally::count`: by what the answer is.
 use mathlib.Core.Path.{sym, ap, ◌∙◌}
-use Rattle.listener.specs.Answers.{toldOf}
+use Rattle.listener.specs.Answers.{told_of}
 use Rattle.summary.specs.Tallies.{counted}
 use borrow.Author.Rules.{rules}
 use Rattle.summary.proofs.Tally.count.Statement.{statement}
@@ -33,7 +33,7 @@ one-more-requires-3 c κs = search rules
 returns : tie.Need-returns
 returns c =
     let tally = c.before.before.before.before.before.before.before.args.self in
-    c.refuse.ensures ∙ sym (ap (λ a. counted tally (toldOf a)) c.before.before.answer.given.1)
+    c.refuse.ensures ∙ sym (ap (λ a. counted tally (told_of a)) c.before.before.answer.given.1)
 
 returns-2 : tie.Need-returns-2
 unfolding counted
@@ -41,7 +41,7 @@ returns-2 c =
     let tally = c.before.before.before.before.before.before.args.self in
     let telegrams = c.before.before.before.before.before.one_more.ensures in
     (λ i. record { telegrams = telegrams i; tables = tally.tables; repeats = c.one-more2.ensures i; refused = tally.refused; first = tally.first })
-    ∙ sym (ap (λ a. counted tally (toldOf a)) c.before.enum_told.given.1)
+    ∙ sym (ap (λ a. counted tally (told_of a)) c.before.enum_told.given.1)
 
 returns-3 : tie.Need-returns-3
 unfolding counted
@@ -49,7 +49,7 @@ returns-3 c =
     let tally = c.before.before.before.before.before.args.self in
     let telegrams = c.before.before.before.before.one_more.ensures in
     (λ i. record { telegrams = telegrams i; tables = tally.tables; repeats = tally.repeats; refused = tally.refused; first = tally.first })
-    ∙ sym (ap (λ a. counted tally (toldOf a)) c.enum-told2.given.1)
+    ∙ sym (ap (λ a. counted tally (told_of a)) c.enum-told2.given.1)
 
 returns-4 : tie.Need-returns-4
 unfolding counted
@@ -57,7 +57,7 @@ returns-4 c =
     let tally = c.before.before.before.before.before.before.args.self in
     let telegrams = c.before.before.before.before.before.one_more.ensures in
     (λ i. record { telegrams = telegrams i; tables = c.one-more3.ensures i; repeats = tally.repeats; refused = tally.refused; first = tally.first })
-    ∙ sym (ap (λ a. counted tally (toldOf a)) c.before.enum-told3.given.1)
+    ∙ sym (ap (λ a. counted tally (told_of a)) c.before.enum-told3.given.1)
 
 pub count_spec : {M : Type 1} → statement M
 count_spec =

@@ -4,11 +4,11 @@ use mathlib.Core.Path.{◌≡◌, refl, sym, ap, ◌∙◌}
 use lib.ListN.{length, length-map}
 use native.Mathlib.Omega.{arith}
 use Rattle.kit.proofs.Put.{poured-length}
-use Rattle.listener.specs.Lent.{listenerIn}
+use Rattle.listener.specs.Lent.{listener_in}
 use Rattle.listener.proofs.Back.{Sized, means-back}
 use Rattle.lister.proofs.Kept.{made_kept}
-use Rattle.summary.specs.Tallies.{countedPiece}
-use Rattle.summary.proofs.Filling.{tail-long, toCount, count_turn, count-end}
+use Rattle.summary.specs.Tallies.{counted_piece}
+use Rattle.summary.proofs.Filling.{tail-long, to_count, count_turn, count-end}
 use borrow.Author.Rules.{rules}
 use Rattle.summary.proofs.Tally.take.Statement.{statement}
 use Rattle.summary.proofs.Tally.take.Tie as tie
@@ -18,7 +18,7 @@ invariant-loop piece telegram₀ memory₀ tally₀ kept₀ from₀ telegram mem
     (kept < 26)
     × (from ≤ length piece)
     × (length telegram ≡ 26)
-    × (toCount tally₀ (listenerIn memory₀) telegram₀ kept₀ piece from₀ ≡ toCount tally (listenerIn memory) telegram kept piece from)
+    × (to_count tally₀ (listener_in memory₀) telegram₀ kept₀ piece from₀ ≡ to_count tally (listener_in memory) telegram kept piece from)
 
 abbrev decreases-loop : tie.decreases-loop
 decreases-loop piece telegram₀ memory₀ tally₀ kept₀ from₀ telegram memory tally kept from = length piece - from
@@ -77,11 +77,11 @@ loop-again c =
       search rules,
       room,
       poured-length poured ∙ l.invariant.2,
-      l.invariant.3 ∙ count_turn l.tally _ (listenerIn l.memory) _ l.telegram _ piece l.auto l.from l.invariant.2 l.invariant.0 room poured heard.0 heard.1,
+      l.invariant.3 ∙ count_turn l.tally _ (listener_in l.memory) _ l.telegram _ piece l.auto l.from l.invariant.2 l.invariant.0 room poured heard.0 heard.1,
     )
 
 returns : tie.Need-returns invariant-loop decreases-loop
-unfolding countedPiece
+unfolding counted_piece
 returns c =
     let l = c.before.loop in
     let start = c.before.before.before.before.before.before in
@@ -96,9 +96,9 @@ returns c =
       held = sym (length-map listener.hand.held _) ∙ hand.1.0.1.0.1;
       set = sym (length-map listener.hand.slots _) ∙ hand.1.1.0.1.0.1;
     } in
-    let same : listenerIn c.before.before.memory-of.result ≡ listener = ap listenerIn c.before.before.memory-of.ensures ∙ means-back listener sized in
-    sym (ap (λ m. toCount start.args.self m lister.tail lister.kept start.args.piece.now 0) (sym same)
-    ∙ (l.invariant.3 ∙ count-end l.tally (listenerIn l.memory) l.telegram l.auto start.args.piece.now l.from l.invariant.2 l.invariant.0 (search rules)))
+    let same : listener_in c.before.before.memory-of.result ≡ listener = ap listener_in c.before.before.memory-of.ensures ∙ means-back listener sized in
+    sym (ap (λ m. to_count start.args.self m lister.tail lister.kept start.args.piece.now 0) (sym same)
+    ∙ (l.invariant.3 ∙ count-end l.tally (listener_in l.memory) l.telegram l.auto start.args.piece.now l.from l.invariant.2 l.invariant.0 (search rules)))
 
 pub take_spec : {M : Type 1} → statement M
 take_spec =

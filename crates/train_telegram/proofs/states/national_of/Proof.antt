@@ -7,8 +7,8 @@ use borrow.Author.Rules.{rules}
 use Rattle.kit.specs.Bytes.{bit}
 use Rattle.kit.specs.Fill.{Filled}
 use Rattle.kit.proofs.Fill.{filled_none, filled_more, filled-all}
-use Rattle.train_codes.specs.Codes.{isolationOf}
-use Rattle.train_telegram.specs.States.{systemWith, nationalOf}
+use Rattle.train_codes.specs.Codes.{isolation_of}
+use Rattle.train_telegram.specs.States.{system_with, national_of}
 use Rattle.train_codes.specs.declared.Isolation.{Isolation}
 use Rattle.train_codes.specs.declared.Isolation.TheVariants.{Silent}
 use Rattle.train_telegram.proofs.Showing.{national-long, national-at}
@@ -26,14 +26,14 @@ shorter-more : (word i rest : ℕ) → Shorter word i rest → Shorter word (i +
 shorter-more word i rest s j = let e : suc j + i ≡ j + (i + 1) = omega arith in s (suc j) ∙ ap (λ k. bit k word) e
 
 system-next : (isolated inverse plain inverted i : ℕ) (isolation : Isolation) → i < 16 → Shorter isolated i plain → Shorter inverse i inverted
-    → isolation ≡ isolationOf (bit 0 plain) (bit 0 inverted) → ◌≡◌ (systemWith isolation) (systemWith (isolationOf (bit i isolated) (bit i inverse)))
+    → isolation ≡ isolation_of (bit 0 plain) (bit 0 inverted) → ◌≡◌ (system_with isolation) (system_with (isolation_of (bit i isolated) (bit i inverse)))
 system-next isolated inverse plain inverted i isolation p s t e =
     let here : 0 + i ≡ i = omega arith in
-    ap systemWith (e ∙ ap₂ isolationOf (s 0 ∙ ap (λ k. bit k isolated) here) (t 0 ∙ ap (λ k. bit k inverse) here))
+    ap system_with (e ∙ ap₂ isolation_of (s 0 ∙ ap (λ k. bit k isolated) here) (t 0 ∙ ap (λ k. bit k inverse) here))
 
 abbrev invariant-loop : tie.invariant-loop
 invariant-loop isolated inverse systems₀ plain₀ inverted₀ i₀ systems plain inverted i =
-    (i ≤ 16) × Shorter isolated i plain × Shorter inverse i inverted × Filled (systemWith Silent) (nationalOf isolated inverse) i systems
+    (i ≤ 16) × Shorter isolated i plain × Shorter inverse i inverted × Filled (system_with Silent) (national_of isolated inverse) i systems
 
 abbrev decreases-loop : tie.decreases-loop
 decreases-loop isolated inverse systems₀ plain₀ inverted₀ i₀ systems plain inverted i = 16 - i
@@ -41,7 +41,7 @@ decreases-loop isolated inverse systems₀ plain₀ inverted₀ i₀ systems pla
 loop-holds : tie.Need-loop-init invariant-loop decreases-loop
 loop-holds c =
     let a = c.args in
-    (search rules, shorter-none a.isolated, shorter-none a.inverse, filled_none (length-replicate 16 (systemWith Silent) ∙ sym (national-long a.isolated a.inverse)))
+    (search rules, shorter-none a.isolated, shorter-none a.inverse, filled_none (length-replicate 16 (system_with Silent) ∙ sym (national-long a.isolated a.inverse)))
 
 isolation-of-requires : tie.Need-isolation-of-requires invariant-loop decreases-loop
 isolation-of-requires c κs = search rules

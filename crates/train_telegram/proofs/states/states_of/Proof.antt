@@ -1,5 +1,5 @@
 -- `states_of`: each signal by its own bytes.
-use Rattle.train_telegram.specs.States.{statesOf}
+use Rattle.train_telegram.specs.States.{states_of}
 use borrow.Author.Rules.{rules}
 use Rattle.train_telegram.proofs.states.states_of.Statement.{statement}
 use Rattle.train_telegram.proofs.states.states_of.Tie as tie
@@ -29,7 +29,7 @@ long-at-requires : tie.Need-long-at-requires
 long-at-requires c κs = search rules
 
 returns : tie.Need-returns
-unfolding statesOf
+unfolding states_of
 returns c = cc
 
 pub states-of-spec : {M : Type 1} → statement M

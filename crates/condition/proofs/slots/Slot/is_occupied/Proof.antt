@@ -1,7 +1,7 @@
 -- `Slot::is_occupied`: by the variant that the `match` found.
 use mathlib.Core.Path.{sym, ap}
 use borrow.Author.Rules.{rules}
-use Rattle.condition.specs.Slots.{isFilled}
+use Rattle.condition.specs.Slots.{is_filled}
 use Rattle.condition.proofs.slots.Slot.is_occupied.Statement.{statement}
 use Rattle.condition.proofs.slots.Slot.is_occupied.Tie as tie
 
@@ -18,7 +18,7 @@ enum-told-4 : tie.Need-enum-told-4
 enum-told-4 c = search rules
 
 returns : tie.Need-returns
-returns c = sym (ap isFilled c.enum_told.given.1)
+returns c = sym (ap is_filled c.enum_told.given.1)
 
 returns-2 : tie.Need-returns-2
 returns-2 c = search rules

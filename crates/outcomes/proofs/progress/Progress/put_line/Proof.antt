@@ -1,6 +1,6 @@
 -- `put_line`: both counts.
 use Rattle.kit.proofs.Put.{poured-then}
-use Rattle.outcomes.specs.Progress.{progressLine}
+use Rattle.outcomes.specs.Progress.{progress_line}
 use borrow.Author.Rules.{rules}
 use Rattle.outcomes.proofs.progress.Progress.put_line.Statement.{statement}
 use Rattle.outcomes.proofs.progress.Progress.put_line.Tie as tie
@@ -27,7 +27,7 @@ same_length : tie.Need-same-length
 same_length c = search rules
 
 returns : tie.Need-returns
-unfolding progressLine
+unfolding progress_line
 returns c = poured-then c.before.before.before.before.before.before.before.before.before.before.before.before.before.before.before.before.put-decimal.ensures (poured-then c.before.before.before.before.before.before.before.before.before.before.before.put-words.ensures (poured-then c.before.before.before.before.before.before.before.put-decimal2.ensures c.before.before.put-words2.ensures))
 
 pub put-line-spec : {M : Type 1} → statement M
