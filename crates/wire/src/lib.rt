@@ -1,5 +1,7 @@
 // The smallest things that go over the wire: bytes, the words of two and the numbers of four (bytes), what a word means as a
 // distance (distances), step numbers and their gap (steps), and the answer of every call that may refuse (verdicts).
+#![tactic(auto)]
+
 mod bytes;
 mod distances;
 mod steps;
