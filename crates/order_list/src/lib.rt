@@ -1,4 +1,6 @@
 // The list of orders that a desk is given: any bytes of any length, ten for each order.
+#![tactic(auto)]
+
 ghost use Rattle.std.specs.Prelude.{◌≡◌, cond, eqb};
 ghost use Rattle.order_list.specs.Lists.{order_at, listed_at, numbers_of, found_at};
 
