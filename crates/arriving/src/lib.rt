@@ -11,7 +11,7 @@ use places::Place;
 use resting::Ended;
 
 // What changes while orders arrive.
-#[derive(Drop)]
+#[derive(Clone, Copy)]
 pub struct Seats {
     pub places: [Place; 20],
     pub last: u8,

@@ -8,7 +8,7 @@ use kinds::{COUNTRIES, CURRENT, TRACTION, VOLTAGES, is_kind, second_allowed, sec
 pub const SLOTS: usize = 20;
 
 // What a slot holds. That it is empty is this enum's word, and not that its number is 0.
-#[derive(Drop)]
+#[derive(Clone, Copy)]
 pub enum Body {
     Empty,
     Area {
@@ -27,7 +27,7 @@ pub enum Body {
     },
 }
 
-#[derive(Drop)]
+#[derive(Clone, Copy)]
 pub struct Slot {
     pub number: u8,
     pub body: Body,
@@ -57,7 +57,7 @@ impl Slot {
 }
 
 // A slot as it is coded: the six bytes' number, type, first word and second word.
-#[derive(Drop)]
+#[derive(Clone, Copy)]
 pub struct Coded {
     pub number: u8,
     pub kind: u8,

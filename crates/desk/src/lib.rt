@@ -8,7 +8,7 @@ use resting::Ended;
 use wire::Verdict;
 
 // The ended numbers stand by the step in which they ended, the newest first, and within a step by slot.
-#[derive(Drop)]
+#[derive(Clone, Copy)]
 pub struct Desk {
     pub places: [Place; 20],
     pub ended: [Ended; 160],
@@ -17,7 +17,7 @@ pub struct Desk {
 }
 
 // Beside a refusal stands the desk as it was.
-#[derive(Drop)]
+#[derive(Clone, Copy)]
 pub struct Answer {
     pub verdict: Verdict,
     pub desk: Desk,

@@ -9,14 +9,14 @@ use desk::Desk;
 use wire::Verdict;
 
 // How many bytes were put into each of the two buffers.
-#[derive(Drop)]
+#[derive(Clone, Copy)]
 pub struct Ran {
     pub tables: usize,
     pub lines: usize,
 }
 
 // The desk after one list or all, and how far the buffers are filled.
-#[derive(Drop)]
+#[derive(Clone, Copy)]
 struct Taken {
     desk: Desk,
     ran: Ran,

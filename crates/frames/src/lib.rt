@@ -1,4 +1,6 @@
 // Calls one after another, each a length in two bytes, high first, and so many bytes. One length may be bare: nothing follows it.
+#![tactic(auto)]
+
 ghost use Rattle.std.specs.Prelude.{◌≡◌};
 ghost use Rattle.frames.specs.Frames.{follows, whole_size};
 

@@ -21,7 +21,7 @@ const STEP: usize = 163;
 const HELD: usize = 165;
 
 // A set by value: which of the packets 3 to 7 are held, and the twenty slots, empty where no packet has come.
-#[derive(Drop)]
+#[derive(Clone, Copy)]
 pub struct Hand {
     pub step: u16,
     pub held: [bool; 5],

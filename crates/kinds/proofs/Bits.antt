@@ -1,7 +1,7 @@
 -- The second word as it is held, bit by bit (K-11, CR1-2): a bit that is not considered is zero, and every other is as it was.
 use Prim.Native.Nat.{ℕ, ◌+◌, ◌-◌, ◌*◌, ◌/◌, ◌%◌, ◌<◌, ◌≤◌, ◌^◌}
 use mathlib.Core.Path.{◌≡◌, refl, sym, ap, ◌∙◌}
-use mathlib.Core.Bool.{false, cond, not, ◌&&◌}
+use mathlib.Core.Bool.{false, cond, ◌&&◌}
 use lib.Dec.{leb}
 use native.Mathlib.Omega.{arith}
 use borrow.Author.Tests.{leb-true, leb-false}

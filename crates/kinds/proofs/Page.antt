@@ -2,7 +2,7 @@
 -- rule at each row; and what follows for each type: the rule as the base had it (CR4-2), which is the law that the other crates use.
 use Prim.Native.Nat.{ℕ, ◌+◌, ◌-◌, ◌*◌, ◌/◌, ◌%◌, ◌^◌, ◌<◌, ◌≤◌}
 use mathlib.Core.Path.{◌≡◌, refl, sym, ap, ◌∙◌, subst}
-use mathlib.Core.Bool.{Bool, true, false, cond, not, ◌&&◌, ◌||◌}
+use mathlib.Core.Bool.{Bool, true, false, not, ◌&&◌, ◌||◌}
 use lib.Bits.{bit_and, and_mask, and_high}
 use lib.Dec.{eqb, ltb, leb}
 use lib.ListN.{length}

@@ -1,6 +1,6 @@
 -- What is not considered, whatever it is: it is allowed, and it is held as zero. The second word without a change distance (K-10, K-11), and
 -- the country bits with voltage 0 (CR1-1, CR1-2), where bits 15 and 14 still decide (CR1-4).
-use Prim.Native.Nat.{ℕ, ◌-◌, ◌<◌}
+use Prim.Native.Nat.{ℕ, ◌<◌}
 use mathlib.Core.Bool.{false, true}
 use mathlib.Core.Path.{◌≡◌, refl}
 use lib.Dec.{ltb}

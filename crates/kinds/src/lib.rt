@@ -1,4 +1,6 @@
 // The types of conditions, their two words, and which second words a type allows.
+#![tactic(auto)]
+
 ghost use Rattle.std.specs.Prelude.{◌≡◌};
 ghost use Rattle.kinds.specs.Words.{is_type, is_traction_word, is_current_word, is_considered, is_unfitted, second_allowed, second_held};
 

@@ -4,7 +4,7 @@ ghost use Rattle.kinds.specs.SecondWords.{has_word, on_page};
 
 // A row: a type, the bits of its second word that must be zero, the bits that are looked at, and the lowest and the highest number that
 // these may be.
-#[derive(Drop)]
+#[derive(Clone, Copy)]
 struct Row(u8, u16, u16, u16, u16);
 
 const ROWS: usize = 10;

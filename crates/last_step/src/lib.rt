@@ -9,7 +9,7 @@ ghost use Rattle.last_step.specs.Lent.{last_in, last_bytes, with_last};
 const LAST: usize = 160;
 
 // The step last taken. That there is none yet is this enum's word, and not that the step number is 0.
-#[derive(Drop)]
+#[derive(Clone, Copy)]
 pub enum Last {
     Never,
     Step(u16),

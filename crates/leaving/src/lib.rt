@@ -24,7 +24,7 @@ fn listed(numbers: &[u32; 20], list: &[u8], n: u8, number: u32) -> u8
 }
 
 // What becomes of a place, and what it adds to the numbers that ended.
-#[derive(Drop)]
+#[derive(Clone, Copy)]
 struct Fate {
     place: Place,
     ended: Ended,
@@ -65,7 +65,7 @@ fn fate_of(numbers: &[u32; 20], list: &[u8], n: u8, step: u16, place: Place) -> 
 }
 
 // The places of the orders that stay, and the numbers that have ended.
-#[derive(Drop)]
+#[derive(Clone, Copy)]
 pub struct Remains {
     pub places: [Place; 20],
     pub ended: [Ended; 160],

@@ -15,7 +15,7 @@ use hand::Hand;
 use last_step::Last;
 use wire::STEPS;
 
-#[derive(Drop)]
+#[derive(Clone, Copy)]
 pub struct Listener {
     pub picture: [Slot; 20],
     pub marks: [bool; 20],
@@ -25,7 +25,7 @@ pub struct Listener {
 
 // What a telegram was: refused under a number of document 01, a repeat, held for a set that is not yet whole, or the last one of a
 // table that was taken, with its step number, how many conditions it has, and the gap from the table before it.
-#[derive(Drop)]
+#[derive(Clone, Copy)]
 pub enum Answer {
     Refused(u8),
     Repeat,
@@ -34,7 +34,7 @@ pub enum Answer {
 }
 
 // The answer, with the next listener beside it.
-#[derive(Drop)]
+#[derive(Clone, Copy)]
 pub struct Heard {
     pub answer: Answer,
     pub listener: Listener,

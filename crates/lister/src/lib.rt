@@ -14,7 +14,7 @@ use telegram::LENGTH;
 
 // What is kept from one piece to the next: the listener, how many tables it has taken, and the first bytes of a telegram that is not
 // yet whole; zeros follow them.
-#[derive(Drop)]
+#[derive(Clone, Copy)]
 pub struct Lister {
     pub listener: Listener,
     pub tables: u64,
@@ -23,14 +23,14 @@ pub struct Lister {
 }
 
 // The state after a piece, with the place past what was put.
-#[derive(Drop)]
+#[derive(Clone, Copy)]
 pub struct Listed {
     pub lister: Lister,
     pub at: usize,
 }
 
 // How many tables were taken after one telegram more, the place past its lines, and what it was.
-#[derive(Drop)]
+#[derive(Clone, Copy)]
 struct Next {
     tables: u64,
     at: usize,

@@ -10,7 +10,7 @@ use lister::Lister;
 const PIECE: usize = 2600;
 
 // The state after a piece, and how many bytes were printed so far.
-#[derive(Drop)]
+#[derive(Clone, Copy)]
 struct Counted {
     lister: Lister,
     length: usize,

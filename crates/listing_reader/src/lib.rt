@@ -6,7 +6,7 @@ use listing_lines::{HEADER, REFUSED};
 use listing_words::{CARRIED, NEW};
 
 // Which of the fixed byte strings a text is.
-#[derive(Drop)]
+#[derive(Clone, Copy)]
 pub enum Word {
     Header,
     New,

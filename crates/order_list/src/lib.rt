@@ -10,7 +10,7 @@ pub const LENGTH: usize = 10;
 // The most orders that a list may have.
 const MOST: usize = 20;
 
-#[derive(Drop)]
+#[derive(Clone, Copy)]
 pub struct Order {
     pub number: u32,
     pub kind: u8,

@@ -6,7 +6,7 @@ ghost use Rattle.outcomes.specs.Ends.{end_by, ends_inside};
 use crate::outcomes::State;
 
 // Behind a whole one; inside one; or because a read failed.
-#[derive(Drop)]
+#[derive(Clone, Copy)]
 pub enum End {
     Whole,
     Short,

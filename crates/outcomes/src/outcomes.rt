@@ -4,7 +4,7 @@ ghost use Rattle.std.specs.Prelude.{◌≡◌};
 ghost use Rattle.outcomes.specs.Outcomes.{after_read, after_write, is_again, is_over, is_failed, is_ended};
 
 // Go on; do it again; the input has ended; it failed.
-#[derive(Drop)]
+#[derive(Clone, Copy)]
 pub enum State {
     More,
     Again,
@@ -13,7 +13,7 @@ pub enum State {
 }
 
 // How many bytes were moved, and what follows.
-#[derive(Drop)]
+#[derive(Clone, Copy)]
 pub struct Moved {
     pub count: usize,
     pub state: State,

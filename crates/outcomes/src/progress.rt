@@ -4,7 +4,7 @@ ghost use Rattle.kit.specs.Put.{Poured};
 ghost use Rattle.outcomes.specs.Progress.{most_counted, progress_of, advanced_by, is_due, progress_line};
 
 // Whether it is shown at all, how many bytes the input has, how many were read, and how many reads ago the line was written, modulo 128.
-#[derive(Drop)]
+#[derive(Clone, Copy)]
 pub struct Progress {
     pub shown: bool,
     pub size: u64,

@@ -162,7 +162,7 @@ pub fn put_short_text(page: &mut [u8], at: usize, words: &[u8]) -> usize
 }
 
 // A word of at most sixteen bytes: the first eight of them, the others, each the lowest first, and how many there are.
-#[derive(Drop)]
+#[derive(Clone, Copy)]
 pub struct Word {
     pub low: u64,
     pub high: u64,

@@ -5,7 +5,7 @@ ghost use Rattle.places.specs.Places.{free_place, orders_of, place_of};
 use condition::{SLOTS, Slot};
 
 // A place of the desk: the order that has it, and its slot in the table. Order 0: the place is free.
-#[derive(Drop)]
+#[derive(Clone, Copy)]
 pub struct Place {
     pub order: u32,
     pub slot: Slot,

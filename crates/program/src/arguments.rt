@@ -5,7 +5,7 @@ ghost use Rattle.program.specs.Arguments.{is_option, argument_of, is_work, has_s
 use crate::names::Program;
 
 // What one argument is: standard input, an option, a word that begins as one and is none, or the name of a file.
-#[derive(Drop)]
+#[derive(Clone, Copy)]
 pub enum Argument {
     Standard,
     Help,
@@ -17,7 +17,7 @@ pub enum Argument {
 }
 
 // What a program is to do: its work, show its help or its version, or tell of an argument that is not understood or of a second input.
-#[derive(Drop)]
+#[derive(Clone, Copy)]
 pub enum Task {
     Work,
     ShowHelp,
@@ -27,7 +27,7 @@ pub enum Task {
 }
 
 // What the arguments ask for together.
-#[derive(Drop)]
+#[derive(Clone, Copy)]
 pub struct Asked {
     pub task: Task,
     // the argument that decided the task, 0 where it is the work

@@ -4,7 +4,7 @@ ghost use Rattle.program.specs.Failures.{doing_words, doing_text};
 
 use crate::names::{Program, put_name};
 
-#[derive(Drop)]
+#[derive(Clone, Copy)]
 pub enum Doing {
     ReadingStandard,
     ReadingFile,

@@ -2,7 +2,7 @@
 ghost use Rattle.kit.specs.Put.{Poured};
 ghost use Rattle.program.specs.Names.{name_of};
 
-#[derive(Drop)]
+#[derive(Clone, Copy)]
 pub enum Program {
     ListConditions,
     RunDesk,

@@ -1,5 +1,7 @@
 // Which numbers rest: those that ended lately, each with the step in which it did. How many steps a number rests is a figure that
 // the desk hands in.
+#![tactic(auto)]
+
 ghost use Rattle.std.specs.Prelude.{true, cond, ◌≡◌, ◌<◌};
 ghost use Rattle.resting.specs.Rests.{none_ended, rests_by, is_resting};
 
@@ -7,7 +9,7 @@ ghost use Rattle.resting.specs.Rests.{none_ended, rests_by, is_resting};
 pub const KEPT: usize = 160;
 
 // A number that an order had when it ended, and the step in which it did. Number 0: none.
-#[derive(Drop)]
+#[derive(Clone, Copy)]
 pub struct Ended {
     pub number: u8,
     pub step: u16,

@@ -1,4 +1,6 @@
 // Whether a text is a given one, byte by byte.
+#![tactic(auto)]
+
 ghost use Rattle.std.specs.Prelude.{◌≡◌, length};
 ghost use Rattle.kit.specs.Loops.{any};
 ghost use Rattle.same_text.specs.Same.{differs_at, is_same_text};

@@ -11,7 +11,7 @@ use signals::Signals;
 const NO_TELEGRAM: u16 = 0xFFFF;
 
 // The record after a call, and the place past its line.
-#[derive(Drop)]
+#[derive(Clone, Copy)]
 struct Spoken {
     signals: Signals,
     at: usize,

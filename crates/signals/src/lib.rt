@@ -10,14 +10,14 @@ use wire::Verdict;
 const MISSES_MOST: u8 = 3;
 
 // The states of all signals, and how many calls in a row have missed.
-#[derive(Drop)]
+#[derive(Clone, Copy)]
 pub struct Signals {
     pub states: States,
     pub misses: u8,
 }
 
 // What is answered to a call: accepted, missed (it had no telegram), or refused under the number of document 01.
-#[derive(Drop)]
+#[derive(Clone, Copy)]
 pub enum Answer {
     Accepted,
     Missed,
@@ -25,7 +25,7 @@ pub enum Answer {
 }
 
 // The answer, and the next record.
-#[derive(Drop)]
+#[derive(Clone, Copy)]
 pub struct Updated {
     pub answer: Answer,
     pub signals: Signals,

@@ -25,7 +25,7 @@ const PACKETS: usize = 5;
 
 // How many telegrams, tables and repeats there were; for each number how many telegrams were refused under it, and the place of the
 // first of them, counted from 1, or 0 where there was none. A count stays at the greatest number that it can hold.
-#[derive(Drop)]
+#[derive(Clone, Copy)]
 pub struct Tally {
     pub telegrams: u64,
     pub tables: u64,

@@ -14,7 +14,7 @@ pub const FIRST_PACKET: u8 = 3;
 
 pub const LAST_PACKET: u8 = 7;
 
-#[derive(Drop)]
+#[derive(Clone, Copy)]
 pub struct Telegram {
     pub packet: u8,
     pub step: u16,
@@ -22,7 +22,7 @@ pub struct Telegram {
 }
 
 // Beside a refusal stands the blank telegram: packet 0, step 0 and four empty slots.
-#[derive(Drop)]
+#[derive(Clone, Copy)]
 pub struct Reading {
     pub verdict: Verdict,
     pub telegram: Telegram,

@@ -1,5 +1,7 @@
 // Text in a lent buffer: bytes, words and numbers in decimal, one after another. What has no room before the buffer's end is
 // dropped, so that no function asks anything of its caller; each answers the place past what it put.
+#![tactic(auto)]
+
 ghost use Rattle.std.specs.Prelude.{[], ◌∷◌, length, take, ◌+◌, ◌<◌, ◌≤◌};
 ghost use Rattle.kit.specs.Put.{Put, Poured};
 ghost use Rattle.text.specs.Decimals.{decimal};

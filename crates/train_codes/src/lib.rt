@@ -1,5 +1,7 @@
 // The codes of a telegram from the train: the state that each code means, and which telegrams are refused (refusals). Unknown, invalid
 // and silent are three things.
+#![tactic(auto)]
+
 mod refusals;
 
 ghost use Rattle.std.specs.Prelude.{◌≡◌};
@@ -8,7 +10,7 @@ ghost use Rattle.train_codes.specs.Codes.{cab_of, brake_of, isolation_of};
 pub use refusals::refusal_of;
 
 // The active cab.
-#[derive(Drop)]
+#[derive(Clone, Copy)]
 pub enum Cab {
     Silent,
     None,
@@ -18,7 +20,7 @@ pub enum Cab {
 }
 
 // Brake position.
-#[derive(Drop)]
+#[derive(Clone, Copy)]
 pub enum Brake {
     Silent,
     PassengerInP,
@@ -29,7 +31,7 @@ pub enum Brake {
 }
 
 // Whether a national system is isolated.
-#[derive(Drop)]
+#[derive(Clone, Copy)]
 pub enum Isolation {
     Silent,
     Isolated,
@@ -38,7 +40,7 @@ pub enum Isolation {
 }
 
 // The supported traction systems: a list of bits, bit 1 for system 1 to bit 31 for system 31.
-#[derive(Drop)]
+#[derive(Clone, Copy)]
 pub enum Traction {
     Silent,
     Supported(u32),

@@ -8,7 +8,7 @@ pub use states::{National, States};
 use wire::Verdict;
 
 // The answer to a telegram, and the states that it says. Beside a refusal every signal is silent.
-#[derive(Drop)]
+#[derive(Clone, Copy)]
 pub struct Reading {
     pub verdict: Verdict,
     pub states: States,

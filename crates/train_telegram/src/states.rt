@@ -8,13 +8,13 @@ use train_codes::{Brake, Cab, Isolation, Traction};
 const SYSTEMS: usize = 16;
 
 // One national system. A field cannot be an array of enums, so that each stands in a struct.
-#[derive(Drop)]
+#[derive(Clone, Copy)]
 pub struct National {
     pub isolation: Isolation,
 }
 
 // The states of all signals; system 1 stands first.
-#[derive(Drop)]
+#[derive(Clone, Copy)]
 pub struct States {
     pub cab: Cab,
     pub brake: Brake,

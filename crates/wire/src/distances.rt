@@ -6,7 +6,7 @@ ghost use Rattle.wire.specs.Distances.{distance_of};
 pub const NO_VALUE: u16 = 0x8000;
 
 // What a word says: no value, so many metres (0 to 32,767), or so many metres below zero (1 to 32,767).
-#[derive(Drop)]
+#[derive(Clone, Copy)]
 pub enum Distance {
     Missing,
     Metres(u16),

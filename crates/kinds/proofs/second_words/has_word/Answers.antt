@@ -8,8 +8,7 @@ use borrow.Author.Rules.{rules}
 use borrow.Author.Tests.{eq-eqb, ne_eqb, lt-ltb, le-leb, lt-leb}
 use Rattle.kinds.specs.SecondWords.{looked_in, zeros_in, low_in, high_in, type_in, fits, has_word}
 use Rattle.kinds.specs.declared.second_words.Row.{Row}
-use Rattle.kinds.proofs.second_words.has_word.Statement.{statement}
-use Rattle.kinds.proofs.second_words.has_word.Tie as tie
+use Rattle.kinds.proofs.second_words.has_word.Goals as goal
 
 -- what a row answers, test by test
 module _ (row : Row) (kind word : ℕ) where
@@ -30,17 +29,14 @@ module _ (row : Row) (kind word : ℕ) where
       unfolding fits
       within l = rw (eq-eqb (type_in row) kind of, lt-ltb word 0x10000 small, eq-eqb (bit_and word (zeros_in row)) 0 clear, le-leb (low_in row) (bit_and word (looked_in row)) l) refl
 
-returns : tie.Need-returns
-returns c = sym (other _ _ _ c.if1.true)
+pub returns-then-of-kind : goal.returns-then-of-kind
+returns-then-of-kind c = sym (other _ _ _ c.if-of-kind.true)
 
-returns-2 : tie.Need-returns-2
-returns-2 c = sym (unclear _ _ _ c.before.if1.false (search rules) c.if2.true)
+pub returns-then-word-zeros-ne0 : goal.returns-then-word-zeros-ne0
+returns-then-word-zeros-ne0 c = sym (unclear _ _ _ c.if-of-kind.false (search rules) c.if-word-zeros-ne0.true)
 
-returns-3 : tie.Need-returns-3
-returns-3 c = sym (below _ _ _ c.before.before.if1.false (search rules) c.before.if2.false c.if3.true)
+pub returns-then-seen-low : goal.returns-then-seen-low
+returns-then-seen-low c = sym (below _ _ _ c.if-of-kind.false (search rules) c.if-word-zeros-ne0.false c.if-seen-low.true)
 
-returns-4 : tie.Need-returns-4
-returns-4 c = sym (within _ _ _ c.before.before.if1.false (search rules) c.before.if2.false c.if3.false)
-
-pub has-word-spec : {M : Type 1} → statement M
-has-word-spec = tie.close (tie.spec returns returns-2 returns-3 returns-4)
+pub returns : goal.returns
+returns c = sym (within _ _ _ c.if-of-kind.false (search rules) c.if-word-zeros-ne0.false c.if-seen-low.false)
