@@ -1,4 +1,6 @@
 // The twenty places of a desk: which order has each, and its slot in the table.
+#![tactic(auto)]
+
 ghost use Rattle.std.specs.Prelude.{◌≡◌};
 ghost use Rattle.places.specs.Places.{free_place, orders_of, place_of};
 
