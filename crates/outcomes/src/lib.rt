@@ -1,4 +1,6 @@
 // What a read or a write came to and what follows, how the reading of an input ended, and how far it is; without a call of the system.
+#![tactic(auto)]
+
 mod ends;
 mod outcomes;
 mod progress;

@@ -1,6 +1,8 @@
 // Text on a page, a lent slice. Each function puts its bytes at `at` and answers the place past them; what stands past that place is of
 // no meaning to a caller, so that eight bytes are stored whatever their count. Where what is stored has no room nothing is put, and the
 // answer is `at`, so that no function asks anything of its caller. `Laid` says all of it, and what each byte is that is stored.
+#![tactic(auto)]
+
 ghost use Rattle.std.specs.Prelude.{◌≡◌, cond, [], ◌∷◌, ◌++◌, leb, length, take, drop, ◌+◌, ◌*◌, ◌/◌, ◌%◌, ◌<◌, ◌≤◌, min};
 ghost use Rattle.std.proofs.lemmas.List.Edits.{sets};
 ghost use Rattle.kit.specs.Text.{ascii};

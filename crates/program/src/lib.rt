@@ -1,5 +1,7 @@
 // What a program is asked and what it says of itself, without a call of the system: which option an argument is, what the arguments ask for
 // together, the help, the version, and what it was doing when a call failed.
+#![tactic(auto)]
+
 mod answers;
 mod arguments;
 mod failures;

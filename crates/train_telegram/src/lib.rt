@@ -1,4 +1,6 @@
 // A telegram from the train: any bytes of any length to its refusal (10, 16, 17) or to the states of the signals that it has.
+#![tactic(auto)]
+
 mod states;
 
 ghost use Rattle.std.specs.Prelude.{◌≡◌};

@@ -4,7 +4,6 @@ use mathlib.Core.Path.{refl, sym, ◌∙◌}
 use native.Mathlib.Omega.{arith}
 use lib.ListN.{length, get_or-eq_default}
 use Rattle.condition.specs.Slots.{empty_slot}
-use borrow.Author.Rules.{rules}
 use Rattle.telegram.proofs.slot_in.Goals as goal
 
 pub returns-then-i-lt-SLOTS : goal.returns-then-i-lt-SLOTS
@@ -13,5 +12,5 @@ returns-then-i-lt-SLOTS c = refl
 pub returns : goal.returns
 returns c =
     let a = c.args in
-    let past : length a.t1 ≤ a.i = omega (arith, c.well-formed.0.1.0.1) in
-    c.empty.ensures ∙ sym (get_or-eq_default a.t1 empty_slot past)
+    let past : length a.table ≤ a.i = omega arith in
+    c.empty.ensures ∙ sym (get_or-eq_default a.table empty_slot past)

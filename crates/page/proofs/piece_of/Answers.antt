@@ -1,0 +1,43 @@
+-- `piece_of`: from the last byte on, what is packed is all that stands from the place on.
+use Prim.Native.Nat.{◌-◌, ◌<◌}
+use mathlib.Core.Path.{◌≡◌, sym, ap, ◌∙◌, subst}
+use native.Mathlib.Omega.{arith}
+use lib.ListN.{take, drop, get_or}
+use Rattle.page.specs.Packed.{Small, none_small, number_made}
+use Rattle.page.proofs.Packed.{packed_none, packed_more, small-more, packed_fits}
+use Rattle.page.proofs.piece_of.Goals as goal
+
+pub loop-i-init : goal.loop-i-init
+unfolding number_made
+loop-i-init c =
+    let words = c.args.words.now in
+    let nothing = packed_none words c.args.from c.at_most-i.result c.at_most-i.ensures in
+    (omega (arith, c.at_most-i.ensures), sym (ap number_made nothing), subst Small (sym nothing) none_small)
+
+pub overflow_mul-piece : goal.overflow_mul-piece
+overflow_mul-piece c =
+    let l = c.loop-i in
+    omega (arith, l.invariant.1, packed_fits c.args.words.now c.args.from l.i (omega arith) l.invariant.0 l.invariant.2)
+
+pub overflow_add-piece : goal.overflow_add-piece
+overflow_add-piece c =
+    let l = c.loop-i in
+    omega (arith, l.invariant.1, c.shared_slice_known-in-loop-i-1.given (l.i - 1), packed_fits c.args.words.now c.args.from l.i (omega arith) l.invariant.0 l.invariant.2)
+
+pub loop-i-preserved : goal.loop-i-preserved
+loop-i-preserved c =
+    let words = c.args.words.now in
+    let l = c.loop-i in
+    let above : c.args.from < l.i = omega arith in
+    let byte : get_or words (l.i - 1) 0 < 256 = omega (arith, c.shared_slice_known-in-loop-i-1.given (l.i - 1)) in (
+      omega (arith, l.invariant.0),
+      packed_more words c.args.from l.i above l.invariant.0 l.invariant.1,
+      small-more words c.args.from l.i above l.invariant.0 l.invariant.2 byte,
+    )
+
+pub returns : goal.returns
+returns c =
+    let l = c.loop-i in
+    let all : l.i - c.args.from ≡ 0 = omega arith in
+    let whole = ap (λ n. drop n (take 8 (drop c.args.from c.args.words.now))) all in
+    (l.invariant.1 ∙ ap number_made whole, subst Small whole l.invariant.2)

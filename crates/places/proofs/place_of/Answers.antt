@@ -1,0 +1,16 @@
+-- `place_of`: the search among the orders of the places.
+use mathlib.Core.Path.{◌≡◌, ap, ◌∙◌}
+use mathlib.Core.List.{List}
+use Prim.Native.Nat.{ℕ}
+use lib.ListN.{length}
+use borrow.Author.Rules.{rules}
+use Rattle.condition.specs.Slots.{slot_count}
+use Rattle.order_list.specs.Lists.{found_at}
+use Rattle.places.proofs.Live.{found-live}
+use Rattle.places.proofs.place_of.Goals as goal
+
+pub returns : goal.returns
+returns c =
+    let twenty : length c.args.places ≡ slot_count = c.well-formed.0.1.0.1 in
+    c.found_at.ensures
+    ∙ (ap (λ (l : List ℕ). found_at l c.args.order) c.orders_of-orders.ensures ∙ found-live c.args.places c.args.order twenty)
