@@ -1,5 +1,7 @@
 // Telegrams of any length, heard in memory: telegrams in a slice, each after its length in two bytes, to the lines that a listing has for
 // them, in a lent buffer.
+#![tactic(auto)]
+
 ghost use Rattle.std.specs.Prelude.{◌≡◌};
 ghost use Rattle.kit.specs.Put.{Poured};
 ghost use Rattle.listener.specs.Lent.{listener_in};

@@ -1,11 +1,11 @@
 -- However a recording is cut into pieces, what is printed for them, one after another, is its listing.
-use Prim.Native.Nat.{ℕ, ◌+◌, ◌≤◌}
+use Prim.Native.Nat.{ℕ, ◌≤◌}
 use mathlib.Core.Path.{◌≡◌, sym, ap, ◌∙◌}
 use mathlib.Core.List.{List, [], ◌∷◌, ◌++◌, append_assoc}
 use lib.ListN.{length}
 use Rattle.listener.specs.Listeners.{fresh_listener}
 use Rattle.listing_lines.specs.Lines.{header_line, end_line}
-use Rattle.lister.specs.Hearings.{cut, telegrams_in, tail_of, lines_for}
+use Rattle.lister.specs.Hearings.{telegrams_in, tail_of, lines_for}
 use Rattle.lister.specs.Pieces.{most_tables, begun_lister, take_of, piece_lines}
 use Rattle.listing.specs.Listings.{tail_line, listing, end_of, together, printed}
 use Rattle.lister.specs.declared.Lister.{Lister}
@@ -26,10 +26,10 @@ in_one recording room =
 
 printed-all : {lister : Lister} {bytes : List ℕ} (k : Kept lister bytes) (pieces : List (List ℕ)) → printed lister pieces ≡ piece_lines lister (together pieces) ++ end_of (take_of lister (together pieces))
 unfolding printed together
-printed-all {lister} k [] = sym (ap (λ (l : List ℕ). l ++ end_of (take_of lister [])) (lines_none k) ∙ ap end_of (take_none k))
-printed-all {lister} k (piece ∷ more) =
+printed-all {lister = lister} {bytes = bytes} k [] = sym (ap (λ (l : List ℕ). l ++ end_of (take_of lister [])) (lines_none k) ∙ ap end_of (take_none k))
+printed-all {lister = lister} {bytes = bytes} k (piece ∷ more) =
     let rest = together more in
-    ap (λ (l : List ℕ). piece_lines lister piece ++ l) (printed-all (take-kept lister piece) more)
+    ap (λ (l : List ℕ). piece_lines lister piece ++ l) (printed-all {lister = take_of lister piece} (take-kept lister piece) more)
     ∙ (sym (append_assoc (piece_lines lister piece) (piece_lines (take_of lister piece) rest) (end_of (take_of (take_of lister piece) rest)))
     ∙ (ap (λ (l : List ℕ). l ++ end_of (take_of (take_of lister piece) rest)) (sym (lines-of-then lister piece rest))
     ∙ ap (λ (s : Lister). piece_lines lister (piece ++ rest) ++ end_of s) (sym (take-then lister piece rest))))

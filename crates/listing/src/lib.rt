@@ -1,4 +1,6 @@
 // The listing of a recording: the whole of it from memory, and what stands at its end. The pieces between are those of `lister`.
+#![tactic(auto)]
+
 ghost use Rattle.kit.specs.Put.{Poured};
 ghost use Rattle.listing.specs.Listings.{tail_line, listing, end_of};
 

@@ -1,5 +1,7 @@
 // How long the listing of a recording is, so that a host can tell a listing that fits its buffer exactly from one that was cut. The
 // recording is listed piece by piece into a buffer of its own, so that it may have any length.
+#![tactic(auto)]
+
 ghost use Rattle.std.specs.Prelude.{◌+◌, ◌≤◌, min, ◌≡◌, length};
 ghost use Rattle.lister.specs.Pieces.{take_of, piece_lines, MadeByPieces};
 ghost use Rattle.listing_length.specs.Lengths.{most_length, listing_length, piece_size};

@@ -1,7 +1,7 @@
 -- However a recording is cut into pieces, what is counted for them, one after another, is the tally of what a fresh listener tells of all its
 -- telegrams. Its tables are those of the listing's last line, its telegrams all that the recording has whole, and no refusal of a listener
 -- has a number that is not counted.
-use Prim.Native.Nat.{ℕ, zero, suc, ◌+◌, ◌/◌, ◌≤◌}
+use Prim.Native.Nat.{ℕ, zero, suc, ◌/◌, ◌≤◌}
 use mathlib.Core.Path.{◌≡◌, refl, sym, ap, ◌∙◌}
 use mathlib.Core.Bool.{cond}
 use mathlib.Core.List.{List, [], ◌∷◌, ◌++◌, append-nil, append_assoc}

@@ -1,5 +1,7 @@
 // The summary of a recording: how many telegrams, tables, repeats and refusals it has, counted beside the listing and only where it is
 // asked for, and its text in a lent buffer.
+#![tactic(auto)]
+
 ghost use Rattle.std.specs.Prelude.{◌≡◌, []};
 ghost use Rattle.kit.specs.Loops.{any};
 ghost use Rattle.kit.specs.Put.{Poured};
