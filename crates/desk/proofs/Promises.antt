@@ -32,7 +32,7 @@ use Rattle.resting.specs.Rests.{is_resting}
 use Rattle.numbers.specs.Numbers.{is_permitted, next_number, number_after}
 use Rattle.resting.specs.declared.Ended.{Ended}
 use Rattle.resting.proofs.Rested.{covers-resting}
-use Rattle.numbers.proofs.Search.{number-permitted, number-range as search_range}
+use Rattle.numbers.proofs.Permitted.{number-permitted, number-range as search_range}
 use Rattle.desk.proofs.Tracing.{at, rested}
 use Rattle.desk.proofs.Turns.{passed_over, given-again}
 use Rattle.desk.proofs.Making.{accepts, refuses, made-sound}
