@@ -1,6 +1,8 @@
 // What other languages call. Each function but `bravolith_list_length`, `bravolith_write` and `bravolith_word` takes bytes and a lent
 // buffer, puts there text or telegrams as the programs write them, and answers how many bytes it put. What has no room before the buffer's
 // end is dropped, so that an answer of the buffer's whole length tells that it may be too short. include/bravolith.h says the same in C.
+#![tactic(auto)]
+
 ghost use Rattle.std.specs.Prelude.{◌≡◌, length};
 ghost use Rattle.kit.specs.Put.{Poured};
 ghost use Rattle.wire.specs.Verdicts.{number_of};
