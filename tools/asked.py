@@ -114,6 +114,18 @@ def written():
         told(type(error), error, None)
 
 
+def crates():
+    """The crates that crates.txt lists, in its order."""
+    lines = [line.split("#")[0].split(":")[0].split() for line in open(os.path.join(ROOT, "crates.txt"))]
+    return [words[0] for words in lines if words]
+
+
+def program(crate):
+    """Where the program of a crate stands: where rt builds it, or in the folder that BRAVOLITH_BIN_DIR names."""
+    folder = os.environ.get("BRAVOLITH_BIN_DIR")
+    return os.path.abspath(os.path.join(folder, crate)) if folder else os.path.join(ROOT, "crates", crate, "out", crate)
+
+
 # ---- for the tools in bash: asked.py TOOL WORD.. prints the help where it is asked for, and nothing where the words are understood
 
 if __name__ == "__main__":
