@@ -4,7 +4,7 @@ use mathlib.Core.Bool.{Bool, true, false}
 use mathlib.Core.List.{List}
 use mathlib.Core.Path.{◌≡◌, refl, sym, ap, ◌∙◌, subst}
 use lib.Dec.{ltb}
-use lib.ListN.{length, set, length-map}
+use lib.ListN.{length, set}
 use lib.Seq.{set_out}
 use native.Mathlib.Omega.{arith}
 use borrow.Author.Rules.{rules}
@@ -59,7 +59,7 @@ returns-then-place_of-lt-SLOTS c =
 pub returns-then-at-ge-SLOTS : goal.returns-then-at-ge-SLOTS
 returns-then-at-ge-SLOTS c =
     let a = c.args in
-    let twenty : length a.seats.places ≡ slot_count = sym (length-map a.seats.places _) ∙ c.well_formed.0.1.1.0.1.0.1 in
+    let twenty : length a.seats.places ≡ slot_count = search rules in
     let past : length a.seats.places ≤ c.place_of-at.result = omega (arith, twenty, c.if-at-ge-SLOTS.true) in
     crowded (is_resting a.rest a.step a.ended) a.order a.seats _ _
     (unlive a.order a.seats _ c.place_of.ensures c.if-place_of-lt-SLOTS.false)

@@ -2,7 +2,6 @@
 use Prim.Native.Nat.{◌≤◌}
 use native.Mathlib.Omega.{arith}
 use Rattle.marks.proofs.Sorting.{sorted_all}
-use borrow.Author.Rules.{rules}
 use Rattle.marks.proofs.all_there.Goals as goal
 
 pub returns-then-count-eq0 : goal.returns-then-count-eq0

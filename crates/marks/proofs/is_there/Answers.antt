@@ -3,12 +3,11 @@ use mathlib.Core.Bool.{false}
 use mathlib.Core.Path.{refl, sym, ◌∙◌}
 use Rattle.marks.proofs.Lent.{there-known}
 use Rattle.marks.proofs.Seeing.{unseen}
-use borrow.Author.Rules.{rules}
 use Rattle.marks.proofs.is_there.Goals as goal
 
 pub returns-then-is_seen : goal.returns-then-is_seen
 returns-then-is_seen c =
-    there-known c.args.memory.now c.args.i c.requires.1 _ c.kind_of-kind.ensures _ c.is_Known.ensures
+    there-known c.args.memory.now c.args.i c.requires.1 _ c.kind_of-kind.ensures _ c.is_known.ensures
 
 pub returns : goal.returns
 returns c =

@@ -1,8 +1,6 @@
 -- `look_up`: the loop marks one of the others after another.
-use Prim.Native.Nat.{◌-◌, ◌<◌}
+use Prim.Native.Nat.{◌<◌}
 use native.Mathlib.Omega.{arith}
-use Rattle.condition.specs.Slots.{slot_count}
-use Rattle.marks.specs.Lent.{Sorted, Seen}
 use Rattle.marks.proofs.Sorting.{sorted_next, sorted_all}
 use borrow.Author.Rules.{rules}
 use Rattle.marks.proofs.look_up.Goals as goal

@@ -1,10 +1,8 @@
 -- `count_of`: the loop counts the occupied slots.
-use Prim.Native.Nat.{ℕ, ◌+◌, ◌-◌, ◌≤◌}
-use mathlib.Core.List.{List}
+use Prim.Native.Nat.{◌+◌, ◌≤◌}
 use mathlib.Core.Path.{◌≡◌, sym, ap, ◌∙◌}
 use native.Mathlib.Omega.{arith}
 use borrow.Author.Rules.{rules}
-use Rattle.kit.specs.Loops.{how_many}
 use Rattle.kit.proofs.Loops.{count_turn, count_none, count_most}
 use Rattle.condition.specs.Slots.{slot_count}
 use Rattle.picture.proofs.Lent.{holds, count-bytes}
