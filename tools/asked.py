@@ -120,6 +120,16 @@ def crates():
     return [words[0] for words in lines if words]
 
 
+def files(*tops):
+    """The files below these folders, in order, without what rt, cargo and python made there."""
+    found = []
+    for top in tops:
+        for at, folders, names in os.walk(top):
+            folders[:] = [name for name in folders if name not in ("out", "target", "__pycache__")]
+            found += [os.path.join(at, name) for name in names]
+    return sorted(found)
+
+
 def program(crate):
     """Where the program of a crate stands: where rt builds it, or in the folder that BRAVOLITH_BIN_DIR names."""
     folder = os.environ.get("BRAVOLITH_BIN_DIR")
