@@ -1,63 +1,118 @@
 // How far the reading is, on error output where that is a terminal.
-use crate::input::Source;
-use libc::{SEEK_CUR, SEEK_END, SEEK_SET, STDERR_FILENO};
+use crate::input::{Opened, Source};
+use crate::standard::Standard;
+use crate::telling::say;
 use outcomes::Progress;
 use program::Asked;
+use std::fs::{File, Files};
+use std::io::{IsTerminal, Read, Seek, SeekFrom};
+use std::{fs, io};
 
 // Whether it is shown: it was asked for, error output is a terminal, and how many bytes the input still has is known and not 0.
-pub fn progress_of(asked: Asked, source: Source) -> Progress {
+pub fn progress_of<R: Files<File = File>>(
+    rt: &R,
+    standard: Standard,
+    asked: Asked,
+    source: &mut Source,
+) -> Progress {
     if !asked.progress {
         return Progress::of(false, 0);
     }
-    if libc::isatty(STDERR_FILENO) != 1 {
+    if !standard.errors.is_terminal() {
         return Progress::of(false, 0);
     }
-    let from = libc::lseek(source.descriptor, 0, SEEK_CUR);
-    if from < 0 {
-        return Progress::of(false, 0);
+    let measured = measure(rt, source);
+    if measured.lost {
+        // no byte may be read from another place, so that the next read must fail, which is told
+        source.opened = Opened::Nothing;
     }
-    let end = libc::lseek(source.descriptor, 0, SEEK_END);
-    let back = libc::lseek(source.descriptor, from, SEEK_SET);
-    if back != from {
-        // the place is lost: no byte may be read from another one, so that the next read must fail, which is told
-        libc::close(source.descriptor);
-    }
-    if end < 0 {
-        return Progress::of(false, 0);
-    }
-    between(from as u64, end as u64)
+    Progress::of(0 < measured.left, measured.left)
 }
 
-fn between(from: u64, end: u64) -> Progress {
-    if end <= from {
-        return Progress::of(false, 0);
+// How many bytes the input still has, 0 where that is not known, and whether the place in it was lost.
+#[derive(Clone, Copy)]
+struct Measured {
+    left: u64,
+    lost: bool,
+}
+
+fn measure<R: Files<File = File>>(rt: &R, source: &Source) -> Measured {
+    let answer = match &source.opened {
+        Opened::Standard(_) => left_of_standard(rt),
+        Opened::File(file) => left_of_file(file),
+        Opened::Nothing => Ok(Measured {
+            left: 0,
+            lost: false,
+        }),
+    };
+    match answer {
+        Ok(measured) => measured,
+        Err(_) => Measured {
+            left: 0,
+            lost: false,
+        },
     }
-    Progress::of(true, end - from)
+}
+
+// The place in a file is sought at its end and then where it was.
+fn left_of_file(file: &File) -> io::Result<Measured> {
+    let mut file = file;
+    let from = file.seek(SeekFrom::Current(0))?;
+    let end = file.seek(SeekFrom::End(0));
+    let lost = match file.seek(SeekFrom::Start(from)) {
+        Ok(place) => place != from,
+        Err(_) => true,
+    };
+    let left = match end {
+        Ok(end) => end.saturating_sub(from),
+        Err(_) => 0,
+    };
+    Ok(Measured { left, lost })
+}
+
+// Where standard input is a file, the system says in files of its own how long it is and which place it is at.
+fn left_of_standard<R: Files<File = File>>(rt: &R) -> io::Result<Measured> {
+    let metadata = fs::metadata(rt, "/proc/self/fd/0")?;
+    let mut file = fs::open(rt, "/proc/self/fdinfo/0")?;
+    let mut text = [0u8; 64];
+    let n = file.read(&mut text)?;
+    let left = match place_in(&text[..n]) {
+        Some(from) => metadata.len().saturating_sub(from),
+        None => 0,
+    };
+    Ok(Measured { left, lost: false })
+}
+
+// The number in a first line `pos: N`.
+fn place_in(text: &[u8]) -> Option<u64> {
+    let words = std::str::from_utf8(text).ok()?;
+    let (line, _) = words.split_once('\n')?;
+    line.strip_prefix("pos:")?.trim().parse::<u64>().ok()
 }
 
 // After a read of so many bytes.
-pub fn went_on(progress: Progress, count: usize) -> Progress {
+pub fn went_on(standard: Standard, progress: Progress, count: usize) -> Progress {
     let next = progress.advanced(count as u64);
     if next.is_due() {
-        show(next);
+        show(standard, next);
     }
     next
 }
 
 // The last line, and its end, where something was read.
-pub fn end_progress(progress: Progress) {
+pub fn end_progress(standard: Standard, progress: Progress) {
     if !progress.shown {
         return;
     }
     if progress.done > 0 {
-        show(progress);
-        io::write_all(STDERR_FILENO, b"\n");
+        show(standard, progress);
+        say(standard, b"\n");
     }
 }
 
 // A line that cannot be written is no loss: the work goes on.
-fn show(progress: Progress) {
+fn show(standard: Standard, progress: Progress) {
     let mut line = [0u8; 64];
     let n = progress.put_line(&mut line, 0);
-    io::write_all(STDERR_FILENO, &line[..n]);
+    say(standard, &line[..n]);
 }

@@ -1,15 +1,63 @@
 // A call that failed, told on error output.
-use libc::EINTR;
-use program::{Doing, Program};
+ghost use Rattle.std.specs.Prelude.{◌≤◌};
 
-// A line: the program, what it was doing, and the system's reason for the call just made.
-pub fn tell(program: Program, doing: Doing, name: &[u8]) {
-    let mut line = [0u8; 4224];
-    let n = program::put_doing(program, doing, name, &mut line, 0);
-    os::fail(&line[..n]);
+use crate::standard::Standard;
+use outcomes::Moved;
+use program::{Doing, Program};
+use std::io::{Error, ErrorKind, Write};
+
+// What a read or a write came to, and the system's reason where it failed.
+#[derive(Clone, Copy)]
+pub struct Tried {
+    pub moved: Moved,
+    pub reason: Option<Error>,
 }
 
-// Whether the call just made failed because a signal came first.
-pub fn is_interrupted() -> bool {
-    os::errno() == EINTR
+// Tells the system's reason where there is one.
+pub fn tell_tried(standard: Standard, program: Program, doing: Doing, name: &[u8], tried: Tried) {
+    if let Some(reason) = tried.reason {
+        tell(standard, program, doing, name, &reason);
+    }
+}
+
+// A line: the program, what it was doing, and the system's reason.
+pub fn tell(standard: Standard, program: Program, doing: Doing, name: &[u8], reason: &Error) {
+    let mut line = [0u8; 4224];
+    let n = program::put_doing(program, doing, name, &mut line, 0);
+    let mut text = [0u8; 128];
+    let k = put_reason(reason, &mut text);
+    say(standard, &line[..n]);
+    say(standard, b": ");
+    say(standard, without_number(&text[..k]));
+    say(standard, b"\n");
+}
+
+// Where error output cannot be written, nothing can be told.
+pub fn say(standard: Standard, bytes: &[u8]) {
+    let _ = Print::write_all(&standard.errors, bytes);
+}
+
+// Puts the text of an error, and answers how many bytes it has.
+fn put_reason(reason: &Error, text: &mut [u8; 128]) -> usize
+    ensures { result ≤ 128 }
+{
+    let mut rest: &mut [u8] = text;
+    let _ = write!(rest, "{reason}");
+    128usize.saturating_sub(rest.len())
+}
+
+// The text of a reason, which has the number of an error of the system behind it, in parentheses; without the number.
+fn without_number(text: &[u8]) -> &[u8] {
+    match std::str::from_utf8(text) {
+        Ok(words) => match words.split_once(" (os error ") {
+            Some((reason, _)) => reason.as_bytes(),
+            None => text,
+        },
+        Err(_) => text,
+    }
+}
+
+// Whether a call failed because a signal came first.
+pub fn is_interrupted(error: &Error) -> bool {
+    error.kind() == ErrorKind::Interrupted
 }
