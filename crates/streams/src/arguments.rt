@@ -1,13 +1,12 @@
 // The program's arguments.
 use crate::output::{Output, write};
-use crate::standard::Standard;
 use crate::telling::tell;
 use program::{Argument, Asked, Doing, Program};
 use std::env::{Env, FillError};
 use std::io::Error;
 
 // What the arguments ask for, the program's own name left out.
-pub fn asked(rt: &impl Env, program: Program) -> Asked {
+pub fn asked(rt: &HostRuntime, program: Program) -> Asked {
     let mut asked = Asked::nothing();
     for i in 1..usize::MAX {
         match with_argument(rt, program, asked, i) {
@@ -19,7 +18,7 @@ pub fn asked(rt: &impl Env, program: Program) -> Asked {
 }
 
 // With one argument more, where there is one. One that is too long for a path is told as one that could not be taken.
-fn with_argument(rt: &impl Env, program: Program, asked: Asked, i: usize) -> Option<Asked> {
+fn with_argument(rt: &HostRuntime, program: Program, asked: Asked, i: usize) -> Option<Asked> {
     let mut word = [0u8; 4096];
     match rt.arg(i, &mut word) {
         Ok(n) => Some(asked.with(program, program::argument_of(&word[..n]), i)),
@@ -35,18 +34,18 @@ const TOO_LONG: i32 = 36;
 
 // Says what is asked for, where it is not the work: the help or the version on standard output, a line on error output on an argument that is
 // not understood.
-pub fn answer(rt: &impl Env, standard: Standard, program: Program, asked: Asked) {
+pub fn answer(rt: &HostRuntime, program: Program, asked: Asked) {
     let mut word = [0u8; 4096];
     match rt.arg(asked.at, &mut word) {
-        Ok(n) => say_answer(standard, program, asked, &word[..n]),
+        Ok(n) => say_answer(rt, program, asked, &word[..n]),
         Err(error) => {
             let reason = reason_of(error);
-            tell(standard, program, Doing::TakingArgument, b"", &reason);
+            tell(rt, program, Doing::TakingArgument, b"", &reason);
         }
     }
 }
 
-fn say_answer(standard: Standard, program: Program, asked: Asked, word: &[u8]) {
+fn say_answer(rt: &HostRuntime, program: Program, asked: Asked, word: &[u8]) {
     let task = asked.task;
     let mut out = [0u8; 4224];
     let k = program::put_answer(program, task, word, &mut out, 0);
@@ -54,7 +53,7 @@ fn say_answer(standard: Standard, program: Program, asked: Asked, word: &[u8]) {
     if program::is_complaint(task) {
         output = Output::Errors;
     }
-    write(standard, program, output, &out[..k]);
+    write(rt, program, output, &out[..k]);
 }
 
 // Why an argument could not be taken, as the system says it.

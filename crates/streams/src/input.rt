@@ -3,19 +3,18 @@ ghost use Rattle.io.specs.Counts.{IsPrefixLen};
 ghost use Rattle.std.specs.Io.{ReadsAtMost};
 
 use crate::output::{Output, write};
-use crate::standard::Standard;
 use crate::telling::{Tried, is_interrupted, tell, tell_tried};
 use outcomes::{Moved, State};
 use program::{Asked, Doing, Program};
 use std::env::Env;
-use std::fs::{File, Files};
-use std::io::{Error, IsTerminal, Read, Stdin};
-use std::{fs, io};
+use std::fs::{File, Files, OpenOptions};
+use std::io;
+use std::io::{Error, IsTerminal, Read};
 
 // What is read: standard input, a file, or nothing, where no file could be opened or the place in the input was lost.
 #[derive(Drop)]
 pub enum Opened {
-    Standard(Stdin),
+    Standard,
     File(File),
     Nothing,
 }
@@ -28,35 +27,18 @@ pub struct Source {
     pub length: usize,
 }
 
-impl Source {
-    // Whether there is something to be read.
-    pub fn is_open(&self) -> bool {
-        match self.opened {
-            Opened::Standard(_) => true,
-            Opened::File(_) => true,
-            Opened::Nothing => false,
-        }
-    }
-}
-
 // The system's number for a text that is no text in UTF-8, and for a descriptor that is not open.
 const NO_TEXT: i32 = 84;
 
 const NOT_OPEN: i32 = 9;
 
 // Opens the input, and puts its name into the lent buffer. Where it cannot be opened, that is told.
-pub fn open<R: Env + Files<File = File>>(
-    rt: &R,
-    standard: Standard,
-    program: Program,
-    asked: Asked,
-    name: &mut [u8],
-) -> Source
+pub fn open(rt: &HostRuntime, program: Program, asked: Asked, name: &mut [u8]) -> Source
     ensures { IsPrefixLen result.length name.new }
 {
     if asked.file == 0 {
         return Source {
-            opened: Opened::Standard(standard.input),
+            opened: Opened::Standard,
             standard: true,
             length: 0,
         };
@@ -65,7 +47,7 @@ pub fn open<R: Env + Files<File = File>>(
     let opened = match open_file(rt, &name[..length]) {
         Ok(file) => Opened::File(file),
         Err(error) => {
-            tell(standard, program, Doing::Opening, &name[..length], &error);
+            tell(rt, program, Doing::Opening, &name[..length], &error);
             Opened::Nothing
         }
     };
@@ -77,7 +59,7 @@ pub fn open<R: Env + Files<File = File>>(
 }
 
 // Puts an argument into the lent buffer, and answers its length; 0 where it has no room.
-fn name_of(rt: &impl Env, at: usize, name: &mut [u8]) -> usize
+fn name_of(rt: &HostRuntime, at: usize, name: &mut [u8]) -> usize
     ensures { IsPrefixLen result name.new }
 {
     match rt.arg(at, name) {
@@ -87,39 +69,36 @@ fn name_of(rt: &impl Env, at: usize, name: &mut [u8]) -> usize
 }
 
 // A file by its name, which is text.
-fn open_file<R: Files<File = File>>(rt: &R, name: &[u8]) -> io::Result<File> {
+fn open_file(rt: &HostRuntime, name: &[u8]) -> io::Result<File> {
     match std::str::from_utf8(name) {
-        Ok(path) => fs::open(rt, path),
+        Ok(path) => rt.open_file(OpenOptions::new().read(true), path),
         Err(_) => Err(Error::from_raw_os_error(NO_TEXT)),
     }
 }
 
 // Says what is awaited, where the input is a terminal.
-pub fn say_awaiting(standard: Standard, program: Program, source: &Source) {
-    if is_terminal(source) {
+pub fn say_awaiting(rt: &HostRuntime, program: Program, source: &Source) {
+    if is_terminal(rt, source) {
         let mut line = [0u8; 128];
         let n = program::put_awaiting(program, &mut line, 0);
-        write(standard, program, Output::Errors, &line[..n]);
+        write(rt, program, Output::Errors, &line[..n]);
     }
 }
 
-fn is_terminal(source: &Source) -> bool {
+fn is_terminal(rt: &HostRuntime, source: &Source) -> bool {
     match &source.opened {
-        Opened::Standard(input) => input.is_terminal(),
+        Opened::Standard => rt.stdin().is_terminal(),
         Opened::File(file) => file.is_terminal(),
         Opened::Nothing => false,
     }
 }
 
 // What the system answers to one read.
-fn read_some(source: &Source, buffer: &mut [u8]) -> io::Result<usize>
+fn read_some(rt: &HostRuntime, source: &Source, buffer: &mut [u8]) -> io::Result<usize>
     ensures { ReadsAtMost result buffer.new }
 {
     match &source.opened {
-        Opened::Standard(input) => {
-            let mut input = input;
-            input.read(buffer)
-        }
+        Opened::Standard => rt.stdin().read(buffer),
         Opened::File(file) => {
             let mut file = file;
             file.read(buffer)
@@ -129,10 +108,10 @@ fn read_some(source: &Source, buffer: &mut [u8]) -> io::Result<usize>
 }
 
 // One read.
-fn read_once(source: &Source, buffer: &mut [u8]) -> Tried
+fn read_once(rt: &HostRuntime, source: &Source, buffer: &mut [u8]) -> Tried
     ensures { IsPrefixLen result.moved.count buffer.new }
 {
-    match read_some(source, buffer) {
+    match read_some(rt, source, buffer) {
         Ok(count) => Tried {
             moved: Moved {
                 count,
@@ -151,37 +130,39 @@ fn read_once(source: &Source, buffer: &mut [u8]) -> Tried
 }
 
 // One read, made again as often as it is interrupted.
-fn read_on(source: &Source, buffer: &mut [u8]) -> Tried
+fn read_on(rt: &HostRuntime, source: &Source, buffer: &mut [u8]) -> Tried
     ensures { IsPrefixLen result.moved.count buffer.new }
 {
+    let mut reason = None;
     for _ in 0..u64::MAX {
-        let tried = read_once(source, buffer);
+        let tried = read_once(rt, source, buffer);
         let state = tried.moved.state;
         if !outcomes::is_again(state) {
             return tried;
         }
+        reason = tried.reason;
     }
     Tried {
         moved: Moved {
             count: 0,
             state: State::Failed,
         },
-        reason: None,
+        reason,
     }
 }
 
 // Tells of a read that failed.
-fn tell_read(standard: Standard, program: Program, source: &Source, name: &[u8], tried: Tried) {
+fn tell_read(rt: &HostRuntime, program: Program, source: &Source, name: &[u8], tried: Tried) {
     if source.standard {
-        tell_tried(standard, program, Doing::ReadingStandard, name, tried);
+        tell_tried(rt, program, Doing::ReadingStandard, name, tried);
     } else {
-        tell_tried(standard, program, Doing::ReadingFile, name, tried);
+        tell_tried(rt, program, Doing::ReadingFile, name, tried);
     }
 }
 
 // Reads what there is, up to the buffer's length. A read that fails is told.
 pub fn read(
-    standard: Standard,
+    rt: &HostRuntime,
     program: Program,
     source: &Source,
     name: &[u8],
@@ -189,17 +170,17 @@ pub fn read(
 ) -> Moved
     ensures { IsPrefixLen result.count buffer.new }
 {
-    let tried = read_on(source, buffer);
+    let tried = read_on(rt, source, buffer);
     let state = tried.moved.state;
     if outcomes::is_failed(state) {
-        tell_read(standard, program, source, name, tried);
+        tell_read(rt, program, source, name, tried);
     }
     tried.moved
 }
 
 // Reads until the buffer is full, the input ends or a read fails, which is told. The state is `More` where the buffer is full.
 pub fn read_full(
-    standard: Standard,
+    rt: &HostRuntime,
     program: Program,
     source: &Source,
     name: &[u8],
@@ -212,7 +193,7 @@ pub fn read_full(
         if done >= buffer.len() {
             break;
         }
-        let outcome = read(standard, program, source, name, &mut buffer[done..]);
+        let outcome = read(rt, program, source, name, &mut buffer[done..]);
         let state = outcome.state;
         if outcomes::is_over(state) {
             return Moved { count: done, state };

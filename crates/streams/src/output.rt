@@ -1,7 +1,6 @@
 // Standard output and error output.
 ghost use Rattle.io.specs.Counts.{IsPrefixLen};
 
-use crate::standard::Standard;
 use crate::telling::{Tried, is_interrupted, tell_tried};
 use outcomes::Moved;
 use program::{Doing, Program};
@@ -14,12 +13,12 @@ pub enum Output {
 }
 
 // One write.
-fn write_once(standard: Standard, output: Output, bytes: &[u8]) -> Tried
+fn write_once(rt: &HostRuntime, output: Output, bytes: &[u8]) -> Tried
     ensures { IsPrefixLen result.moved.count bytes.now }
 {
     let answer = match output {
-        Output::Standard => standard.output.write_some(bytes),
-        Output::Errors => standard.errors.write_some(bytes),
+        Output::Standard => rt.stdout().write_some(bytes),
+        Output::Errors => rt.stderr().write_some(bytes),
     };
     match answer {
         Ok(count) => Tried {
@@ -40,16 +39,16 @@ fn write_once(standard: Standard, output: Output, bytes: &[u8]) -> Tried
 }
 
 // Writes all of these bytes and answers true, or stops at the first write that fails, tells it, and answers false.
-pub fn write(standard: Standard, program: Program, output: Output, bytes: &[u8]) -> bool {
+pub fn write(rt: &HostRuntime, program: Program, output: Output, bytes: &[u8]) -> bool {
     let mut done: usize = 0;
     for _ in 0..u64::MAX {
         if done >= bytes.len() {
             return true;
         }
-        let tried = write_once(standard, output, &bytes[done..]);
+        let tried = write_once(rt, output, &bytes[done..]);
         let state = tried.moved.state;
         if outcomes::is_failed(state) {
-            tell_write(standard, program, output, tried);
+            tell_write(rt, program, output, tried);
             return false;
         }
         done += tried.moved.count;
@@ -58,9 +57,9 @@ pub fn write(standard: Standard, program: Program, output: Output, bytes: &[u8])
 }
 
 // Tells of a write that failed.
-fn tell_write(standard: Standard, program: Program, output: Output, tried: Tried) {
+fn tell_write(rt: &HostRuntime, program: Program, output: Output, tried: Tried) {
     match output {
-        Output::Standard => tell_tried(standard, program, Doing::Writing, b"", tried),
-        Output::Errors => tell_tried(standard, program, Doing::Telling, b"", tried),
+        Output::Standard => tell_tried(rt, program, Doing::Writing, b"", tried),
+        Output::Errors => tell_tried(rt, program, Doing::Telling, b"", tried),
     }
 }

@@ -1,24 +1,23 @@
 // How far the reading is, on error output where that is a terminal.
+ghost use Rattle.std.specs.Prelude.{◌≡◌};
+
 use crate::input::{Opened, Source};
-use crate::standard::Standard;
 use crate::telling::say;
 use outcomes::Progress;
 use program::Asked;
-use std::fs::{File, Files};
+use std::fs::{File, Files, OpenOptions};
+use std::io;
 use std::io::{IsTerminal, Read, Seek, SeekFrom};
-use std::{fs, io};
 
 // Whether it is shown: it was asked for, error output is a terminal, and how many bytes the input still has is known and not 0.
-pub fn progress_of<R: Files<File = File>>(
-    rt: &R,
-    standard: Standard,
-    asked: Asked,
-    source: &mut Source,
-) -> Progress {
+pub fn progress_of(rt: &HostRuntime, asked: Asked, source: &mut Source) -> Progress
+    ensures same_length { source.new.length ≡ source.old.length }
+    ensures same_kind { source.new.standard ≡ source.old.standard }
+{
     if !asked.progress {
         return Progress::of(false, 0);
     }
-    if !standard.errors.is_terminal() {
+    if !rt.stderr().is_terminal() {
         return Progress::of(false, 0);
     }
     let measured = measure(rt, source);
@@ -36,9 +35,9 @@ struct Measured {
     lost: bool,
 }
 
-fn measure<R: Files<File = File>>(rt: &R, source: &Source) -> Measured {
+fn measure(rt: &HostRuntime, source: &Source) -> Measured {
     let answer = match &source.opened {
-        Opened::Standard(_) => left_of_standard(rt),
+        Opened::Standard => left_of_standard(rt),
         Opened::File(file) => left_of_file(file),
         Opened::Nothing => Ok(Measured {
             left: 0,
@@ -71,9 +70,9 @@ fn left_of_file(file: &File) -> io::Result<Measured> {
 }
 
 // Where standard input is a file, the system says in files of its own how long it is and which place it is at.
-fn left_of_standard<R: Files<File = File>>(rt: &R) -> io::Result<Measured> {
-    let metadata = fs::metadata(rt, "/proc/self/fd/0")?;
-    let mut file = fs::open(rt, "/proc/self/fdinfo/0")?;
+fn left_of_standard(rt: &HostRuntime) -> io::Result<Measured> {
+    let metadata = rt.metadata("/proc/self/fd/0")?;
+    let mut file = rt.open_file(OpenOptions::new().read(true), "/proc/self/fdinfo/0")?;
     let mut text = [0u8; 64];
     let n = file.read(&mut text)?;
     let left = match place_in(&text[..n]) {
@@ -91,28 +90,28 @@ fn place_in(text: &[u8]) -> Option<u64> {
 }
 
 // After a read of so many bytes.
-pub fn went_on(standard: Standard, progress: Progress, count: usize) -> Progress {
+pub fn went_on(rt: &HostRuntime, progress: Progress, count: usize) -> Progress {
     let next = progress.advanced(count as u64);
     if next.is_due() {
-        show(standard, next);
+        show(rt, next);
     }
     next
 }
 
 // The last line, and its end, where something was read.
-pub fn end_progress(standard: Standard, progress: Progress) {
+pub fn end_progress(rt: &HostRuntime, progress: Progress) {
     if !progress.shown {
         return;
     }
     if progress.done > 0 {
-        show(standard, progress);
-        say(standard, b"\n");
+        show(rt, progress);
+        say(rt, b"\n");
     }
 }
 
 // A line that cannot be written is no loss: the work goes on.
-fn show(standard: Standard, progress: Progress) {
+fn show(rt: &HostRuntime, progress: Progress) {
     let mut line = [0u8; 64];
     let n = progress.put_line(&mut line, 0);
-    say(standard, &line[..n]);
+    say(rt, &line[..n]);
 }

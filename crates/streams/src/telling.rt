@@ -1,7 +1,6 @@
 // A call that failed, told on error output.
 ghost use Rattle.std.specs.Prelude.{◌≤◌};
 
-use crate::standard::Standard;
 use outcomes::Moved;
 use program::{Doing, Program};
 use std::io::{Error, ErrorKind, Write};
@@ -13,28 +12,30 @@ pub struct Tried {
     pub reason: Option<Error>,
 }
 
-// Tells the system's reason where there is one.
-pub fn tell_tried(standard: Standard, program: Program, doing: Doing, name: &[u8], tried: Tried) {
-    if let Some(reason) = tried.reason {
-        tell(standard, program, doing, name, &reason);
-    }
+// Tells of a read or a write that failed. The system has no reason for a write that took nothing.
+pub fn tell_tried(rt: &HostRuntime, program: Program, doing: Doing, name: &[u8], tried: Tried) {
+    let reason = match tried.reason {
+        Some(reason) => reason,
+        None => Error::from(ErrorKind::WriteZero),
+    };
+    tell(rt, program, doing, name, &reason);
 }
 
 // A line: the program, what it was doing, and the system's reason.
-pub fn tell(standard: Standard, program: Program, doing: Doing, name: &[u8], reason: &Error) {
+pub fn tell(rt: &HostRuntime, program: Program, doing: Doing, name: &[u8], reason: &Error) {
     let mut line = [0u8; 4224];
     let n = program::put_doing(program, doing, name, &mut line, 0);
     let mut text = [0u8; 128];
     let k = put_reason(reason, &mut text);
-    say(standard, &line[..n]);
-    say(standard, b": ");
-    say(standard, without_number(&text[..k]));
-    say(standard, b"\n");
+    say(rt, &line[..n]);
+    say(rt, b": ");
+    say(rt, without_number(&text[..k]));
+    say(rt, b"\n");
 }
 
 // Where error output cannot be written, nothing can be told.
-pub fn say(standard: Standard, bytes: &[u8]) {
-    let _ = Print::write_all(&standard.errors, bytes);
+pub fn say(rt: &HostRuntime, bytes: &[u8]) {
+    let _ = Print::write_all(&rt.stderr(), bytes);
 }
 
 // Puts the text of an error, and answers how many bytes it has.
