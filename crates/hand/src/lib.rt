@@ -1,4 +1,6 @@
 // The set in hand, in the lent memory of a listener: the packets of one step that are held so far.
+#![tactic(auto)]
+
 ghost use Rattle.std.specs.Prelude.{◌≡◌, ◌++◌, map, ◌-◌, ◌≤◌};
 ghost use Rattle.std.proofs.lemmas.List.Edits.{sets};
 ghost use Rattle.kit.specs.Bytes.{word_bytes};

@@ -1,4 +1,6 @@
 // The step last taken: whether a telegram is of that step, and the gap from it to another.
+#![tactic(auto)]
+
 ghost use Rattle.std.specs.Prelude.{◌≡◌};
 ghost use Rattle.std.proofs.lemmas.List.Edits.{sets};
 ghost use Rattle.memory.specs.Memory.{last_from};

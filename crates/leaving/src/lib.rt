@@ -1,5 +1,7 @@
 // Orders that are absent from a list leave: their slots are free in the same step, and their numbers begin to rest. The list is
 // looked at as far as its first n orders; a desk hands in how many it has.
+#![tactic(auto)]
+
 ghost use Rattle.std.specs.Prelude.{map, ◌≡◌, ◌<◌};
 ghost use Rattle.order_list.specs.Lists.{listed_at, numbers_of};
 ghost use Rattle.leaving.specs.Leaving.{kept_among, ended_entry, ended_among, remains_of};

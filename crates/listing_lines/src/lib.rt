@@ -1,4 +1,6 @@
 // The lines of a listing but for those of tables, put into a lent buffer: the header, the line of a refused telegram, and the end.
+#![tactic(auto)]
+
 ghost use Rattle.kit.specs.Put.{Poured};
 ghost use Rattle.listing_lines.specs.Lines.{header_line, refused_line, end_line};
 

@@ -1,4 +1,6 @@
 // Reads the fixed words of a listing: a text is compared with the byte strings that the listing is written with.
+#![tactic(auto)]
+
 ghost use Rattle.std.specs.Prelude.{◌≡◌};
 ghost use Rattle.listing_reader.specs.Fixed.{word_of, code_of};
 

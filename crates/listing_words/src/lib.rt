@@ -1,4 +1,6 @@
 // The words of a listing: the two marks of a condition, which are compared and written, and a number put into a lent buffer.
+#![tactic(auto)]
+
 ghost use Rattle.kit.specs.Put.{Poured};
 ghost use Rattle.listing_words.specs.Words.{number_then};
 

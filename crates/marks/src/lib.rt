@@ -1,4 +1,6 @@
 // Which entries of the set in the lent memory of a listener are carried on from the picture before it.
+#![tactic(auto)]
+
 ghost use Rattle.std.specs.Prelude.{◌+◌, ◌<◌, ◌≤◌, cond, not, true, false, ◌&&◌, ◌≡◌, length, get_or, set};
 ghost use Rattle.kit.specs.Loops.{any};
 ghost use Rattle.condition.specs.Slots.{slot_count};

@@ -1,4 +1,6 @@
 // The memory of a listener that a host lends: its slots and marks. specs/Memory.antt says what each byte means.
+#![tactic(auto)]
+
 ghost use Rattle.std.specs.Prelude.{◌+◌, ◌≤◌, ◌≡◌, ◌∷◌, ◌++◌, get_or, false};
 ghost use Rattle.std.proofs.lemmas.List.Edits.{sets};
 ghost use Rattle.kit.specs.Bytes.{word_bytes};

@@ -2,7 +2,7 @@
 --
 -- `permitted_exists` is what the search rests on (D-15): twenty numbers of places and at most 220 that may rest are fewer than 255,
 -- so of the 255 numbers after the last one given one is none of them.
-use Prim.Native.Nat.{ℕ, ◌+◌, ◌<◌, ◌≤◌}
+use Prim.Native.Nat.{ℕ, ◌<◌, ◌≤◌}
 use mathlib.Core.Path.{◌≡◌, refl, sym, ◌∙◌, subst}
 use mathlib.Core.Bool.{Bool, true, false}
 use mathlib.Core.List.{List, ◌++◌, map}

@@ -1,5 +1,7 @@
 // Which number a new order is given: the first permitted one after the last one given. A number is permitted if no live order has
 // it and it does not rest. How many steps a number rests is a figure that the desk hands in.
+#![tactic(auto)]
+
 ghost use Rattle.std.specs.Prelude.{◌≡◌, ◌<◌};
 ghost use Rattle.resting.specs.Rests.{is_resting};
 ghost use Rattle.numbers.specs.Numbers.{has_number, is_permitted, number_after, next_number};

@@ -1,5 +1,7 @@
 // When the list of orders that a desk is given is refused: rows 1 to 8 of document 01. A list is any bytes of any length; a live
 // order is one that has a place on the desk.
+#![tactic(auto)]
+
 ghost use Rattle.std.specs.Prelude.{◌≡◌, ◌<◌, ◌≤◌};
 ghost use Rattle.kit.specs.Each.{each};
 ghost use Rattle.kit.specs.Ladder.{ladder};

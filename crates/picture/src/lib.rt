@@ -1,4 +1,6 @@
 // What is judged of a whole set in the lent memory of a listener: how many conditions it has, and whether a number stands in it twice.
+#![tactic(auto)]
+
 ghost use Rattle.std.specs.Prelude.{◌+◌, ◌<◌, cond, true, false, ◌&&◌, ◌≡◌, get_or, set};
 ghost use Rattle.memory.specs.Memory.{is_set, set_in};
 ghost use Rattle.picture.specs.Pictures.{count_of, clashes};

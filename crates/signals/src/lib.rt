@@ -1,4 +1,6 @@
 // The record of signals from the train: what each call makes of it, a call with a telegram and one without.
+#![tactic(auto)]
+
 ghost use Rattle.std.specs.Prelude.{◌≡◌};
 ghost use Rattle.signals.specs.Answers.{updating_of};
 ghost use Rattle.signals.specs.Signals.{fresh_signals, missed_by, update_of};

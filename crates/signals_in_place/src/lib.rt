@@ -1,4 +1,6 @@
 // The record of signals belongs to the host, and each call updates it where it is.
+#![tactic(auto)]
+
 ghost use Rattle.std.specs.Prelude.{◌≡◌};
 ghost use Rattle.signals.specs.Answers.{noted_of, updating_of};
 ghost use Rattle.signals.specs.Signals.{update_of};

@@ -1,5 +1,5 @@
 -- Every line has room in 256 bytes, so that the program's buffer cuts none off.
-use Prim.Native.Nat.{ℕ, ◌+◌, ◌<◌, ◌≤◌}
+use Prim.Native.Nat.{ℕ, ◌<◌, ◌≤◌}
 use mathlib.Core.List.{[], ◌∷◌, ◌++◌}
 use lib.ListN.{length, length-append, get_or}
 use native.Mathlib.Omega.{arith}

@@ -1,4 +1,6 @@
 // What the program read_signals writes: a line for each call, and one where the input ends inside a call.
+#![tactic(auto)]
+
 mod words;
 
 ghost use Rattle.std.specs.Prelude.{length, ◌+◌, ◌≤◌};

@@ -1,4 +1,6 @@
 // Reading a telegram of any bytes and any length: its refusal (10, 11, then the first bad slot with 12, 13, 6, 14), or what it means.
+#![tactic(auto)]
+
 ghost use Rattle.std.specs.Prelude.{◌≡◌, ◌<◌, ◌≤◌, length};
 ghost use Rattle.kit.specs.Ladder.{ladder};
 ghost use Rattle.telegram_reader.specs.Places.{place_slot};

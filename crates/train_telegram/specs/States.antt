@@ -3,9 +3,7 @@ use Rattle.std.specs.Prelude.{ℕ, ◌%◌, List, [], ◌∷◌, get_or, replica
 use Rattle.kit.specs.Bytes.{bit, word_at, long_at}
 use Rattle.kit.specs.Each.{each}
 use Rattle.train_codes.specs.Codes.{cab_of, brake_of, isolation_of}
-use Rattle.train_codes.specs.declared.Brake.{Brake}
 use Rattle.train_codes.specs.declared.Brake.TheVariants as Brake'
-use Rattle.train_codes.specs.declared.Cab.{Cab}
 use Rattle.train_codes.specs.declared.Cab.TheVariants as Cab'
 use Rattle.train_codes.specs.declared.Isolation.{Isolation}
 use Rattle.train_codes.specs.declared.Isolation.TheVariants as Isolation'

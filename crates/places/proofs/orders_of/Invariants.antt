@@ -1,14 +1,8 @@
 -- `orders_of`: the loop fills the array with the places' orders.
-use Prim.Native.Nat.{ℕ, ◌-◌, ◌<◌, ◌≤◌}
-use mathlib.Core.Path.{◌≡◌, refl, sym}
-use lib.ListN.{length}
-use native.Mathlib.Omega.{arith}
-use borrow.Author.Rules.{rules}
+use Prim.Native.Nat.{◌-◌, ◌≤◌}
 use Rattle.kit.specs.Fill.{Filled}
-use Rattle.kit.proofs.Fill.{mapped_none, mapped_more, mapped_all}
 use Rattle.condition.specs.Slots.{slot_count}
-use Rattle.places.specs.Places.{free_place, orders_of}
-use Rattle.places.specs.declared.Place.{Place}
+use Rattle.places.specs.Places.{orders_of}
 use Rattle.places.proofs.orders_of.Given as goal
 
 abbrev pub invariant-loop-i : goal.invariant-loop-i

@@ -11,6 +11,6 @@ use Rattle.places.proofs.place_of.Goals as goal
 
 pub returns : goal.returns
 returns c =
-    let twenty : length c.args.places ≡ slot_count = c.well-formed.0.1.0.1 in
+    let twenty : length c.args.places ≡ slot_count = search rules in
     c.found_at.ensures
     ∙ (ap (λ (l : List ℕ). found_at l c.args.order) c.orders_of-orders.ensures ∙ found-live c.args.places c.args.order twenty)

@@ -4,7 +4,6 @@ use mathlib.Core.Logic.{inl, inr}
 use Rattle.kit.proofs.Ladder.{ladder_decides, ladder-silent}
 use Rattle.program.specs.Arguments.{argument_of}
 use Rattle.program.specs.declared.arguments.Argument.TheVariants.{Standard, Help, Version, Summary, Progress, Unknown, Name}
-use borrow.Author.Rules.{rules}
 use Rattle.program.proofs.arguments.argument_of.Goals as goal
 
 pub returns-then-is_same : goal.returns-then-is_same

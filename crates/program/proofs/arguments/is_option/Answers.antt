@@ -16,3 +16,7 @@ none (byte ∷ text) e = absurd (omega (arith, e))
 
 pub returns-then-text-eq0 : goal.returns-then-text-eq0
 returns-then-text-eq0 c = none _ c.if-text-eq0.true
+
+pub returns : goal.returns
+unfolding is_option
+returns c = search rules

@@ -1,0 +1,17 @@
+use mathlib.Core.Path.{sym}
+use mathlib.Core.Bool.{false}
+use lib.ListN.{get_or-eq_default}
+use native.Mathlib.Omega.{arith}
+use Rattle.condition.specs.Slots.{slot_count}
+use Rattle.memory.specs.Memory.{marks_from, marks_in}
+use Rattle.memory.proofs.Slots.{flag_in, length_flags}
+use borrow.Author.Rules.{rules}
+use Rattle.memory.proofs.is_marked.Goals as goal
+
+pub returns-then-i-lt-SLOTS : goal.returns-then-i-lt-SLOTS
+returns-then-i-lt-SLOTS c = let a = c.args in sym (flag_in a.memory.now marks_from slot_count a.i (search rules))
+
+pub returns : goal.returns
+returns c =
+    let a = c.args in
+    sym (get_or-eq_default (marks_in a.memory.now) false {n = a.i} (omega (arith, length_flags a.memory.now marks_from slot_count, c.if-i-lt-SLOTS.false)))
