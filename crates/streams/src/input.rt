@@ -62,10 +62,7 @@ pub fn open(rt: &HostRuntime, program: Program, asked: Asked, name: &mut [u8]) -
 fn name_of(rt: &HostRuntime, at: usize, name: &mut [u8]) -> usize
     ensures { IsPrefixLen result name.new }
 {
-    match rt.arg(at, name) {
-        Ok(length) => length,
-        Err(_) => 0,
-    }
+    rt.arg(at, name).unwrap_or(0)
 }
 
 // A file by its name, which is text.

@@ -36,20 +36,14 @@ struct Measured {
 }
 
 fn measure(rt: &HostRuntime, source: &Source) -> Measured {
-    let answer = match &source.opened {
-        Opened::Standard => left_of_standard(rt),
-        Opened::File(file) => left_of_file(file),
-        Opened::Nothing => Ok(Measured {
-            left: 0,
-            lost: false,
-        }),
+    let unknown = Measured {
+        left: 0,
+        lost: false,
     };
-    match answer {
-        Ok(measured) => measured,
-        Err(_) => Measured {
-            left: 0,
-            lost: false,
-        },
+    match &source.opened {
+        Opened::Standard => left_of_standard(rt).unwrap_or(unknown),
+        Opened::File(file) => left_of_file(file).unwrap_or(unknown),
+        Opened::Nothing => unknown,
     }
 }
 
@@ -58,15 +52,11 @@ fn left_of_file(file: &File) -> io::Result<Measured> {
     let mut file = file;
     let from = file.seek(SeekFrom::Current(0))?;
     let end = file.seek(SeekFrom::End(0));
-    let lost = match file.seek(SeekFrom::Start(from)) {
-        Ok(place) => place != from,
-        Err(_) => true,
-    };
-    let left = match end {
-        Ok(end) => end.saturating_sub(from),
-        Err(_) => 0,
-    };
-    Ok(Measured { left, lost })
+    let back = file.seek(SeekFrom::Start(from));
+    Ok(Measured {
+        left: end.unwrap_or(0).saturating_sub(from),
+        lost: back.ok() != Some(from),
+    })
 }
 
 // Where standard input is a file, the system says in files of its own how long it is and which place it is at.
@@ -75,11 +65,11 @@ fn left_of_standard(rt: &HostRuntime) -> io::Result<Measured> {
     let mut file = rt.open_file(OpenOptions::new().read(true), "/proc/self/fdinfo/0")?;
     let mut text = [0u8; 64];
     let n = file.read(&mut text)?;
-    let left = match place_in(&text[..n]) {
-        Some(from) => metadata.len().saturating_sub(from),
-        None => 0,
-    };
-    Ok(Measured { left, lost: false })
+    let from = place_in(&text[..n]).unwrap_or(u64::MAX);
+    Ok(Measured {
+        left: metadata.len().saturating_sub(from),
+        lost: false,
+    })
 }
 
 // The number in a first line `pos: N`.
