@@ -12,7 +12,7 @@ use native.Mathlib.Nat.{add-zero}
 use native.Mathlib.Omega.{arith}
 use Rattle.orders.specs.Orders.{Fair}
 use Rattle.kit.specs.Member.{member}
-use Rattle.kit.proofs.Cases.{on, given}
+use Rattle.kit.proofs.Cases.{on}
 use Rattle.kit.proofs.Loops.{fold-none, fold_more}
 use Rattle.condition.specs.Slots.{slot_count}
 use Rattle.order_list.specs.Lists.{stands, order_at, order_count}

@@ -1,12 +1,12 @@
 -- D-12 on the lists themselves: the numbers that rest are exactly those of the orders that ended in this step or in one of the
 -- rest - 1 accepted steps before. Nothing older looks as if it rested, however long the desk has run (A-05).
-use Prim.Native.Nat.{ℕ, zero, suc, ◌+◌, ◌-◌, ◌*◌, ◌/◌, ◌<◌, ◌≤◌}
+use Prim.Native.Nat.{ℕ, zero, suc, ◌+◌, ◌*◌, ◌/◌, ◌<◌, ◌≤◌}
 use mathlib.Core.Path.{◌≡◌, sym, ap, ◌∙◌, subst}
 use mathlib.Core.Logic.{◌↔◌}
 use mathlib.Core.Bool.{true}
 use mathlib.Core.List.{List, [], ◌∷◌}
 use native.Mathlib.Omega.{arith}
-use Rattle.kit.proofs.Cases.{on, given}
+use Rattle.kit.proofs.Cases.{given}
 use Rattle.condition.specs.Slots.{slot_count}
 use Rattle.orders.proofs.Lists.{fair}
 use Rattle.resting.specs.Rests.{ended_at, is_resting}
@@ -15,7 +15,7 @@ use Rattle.resting.proofs.Rested.{resting-some, resting_when}
 use Rattle.desk.proofs.Runs.{desk_run, AllAccepted, EndedAgo}
 use Rattle.desk.proofs.Seating.{inside}
 use Rattle.desk.proofs.Stepping.{Sound, Entry, begun, moved, entry, rests, moves}
-use Rattle.desk.proofs.Tracing.{at, run_sound, fresh-ended}
+use Rattle.desk.proofs.Tracing.{run_sound, fresh-ended}
 
 module _ (rest rows : ℕ) (enough : rest ≤ rows) (few : rows ≤ 11) where
   -- an entry in row k is of an order that ended k steps ago

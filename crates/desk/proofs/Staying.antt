@@ -1,6 +1,6 @@
 -- Who stays and who ends in a step. An order that stays keeps its slot, its number and its type, and takes the list's words; the
 -- places of the others are free. The places that this leaves are as orderly as those before.
-use Prim.Native.Nat.{ℕ, ◌-◌, ◌<◌, ◌≤◌}
+use Prim.Native.Nat.{ℕ, ◌<◌, ◌≤◌}
 use mathlib.Core.Path.{◌≡◌, refl, sym, ap, ◌∙◌, subst}
 use mathlib.Core.Logic.{◌⊎◌, inl, inr}
 use mathlib.Core.Bool.{true}

@@ -1,5 +1,7 @@
 // The desk: twenty places, the numbers that ended lately, the last number given and the step number. Each accepted list makes one
 // step: orders that are absent leave (crate leaving), new ones arrive (crate arriving).
+#![tactic(auto)]
+
 ghost use Rattle.std.specs.Prelude.{◌≡◌};
 ghost use Rattle.desk.specs.Desks.{base_rest, fresh_desk, accept_of, Made};
 

@@ -1,4 +1,6 @@
 // The desk's table, and its five packets written as telegrams.
+#![tactic(auto)]
+
 ghost use Rattle.std.specs.Prelude.{◌≡◌};
 ghost use Rattle.telegram.specs.Telegrams.{write_verdict, written};
 ghost use Rattle.desk.specs.Desks.{table_of, packet_of};

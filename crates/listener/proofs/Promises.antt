@@ -6,7 +6,7 @@ use mathlib.Core.Logic.{◌⊎◌, inl, inr, ◌↔◌}
 use mathlib.Core.List.{List}
 use native.Mathlib.Omega.{arith}
 use Rattle.kit.specs.Ladder.{ladder, Decides, NoneHolds, Numbered}
-use Rattle.kit.proofs.Cases.{on, given}
+use Rattle.kit.proofs.Cases.{on}
 use Rattle.kit.proofs.Ladder.{ladder_decides, ladder-silent, climb, ladder_append, decides_append, numbered_append, decides_such, decides_positive, refused-exactly}
 use Rattle.telegram.specs.Telegrams.{read_rows, read_of}
 use Rattle.telegram.specs.declared.Telegram.{Telegram}

@@ -2,6 +2,8 @@
 // entry that was carried on from the picture before. Packets of a table that is not yet whole are the set in hand.
 //
 // It works in memory that is lent (`hear_in`), so that no table is handed over for a telegram. `Listener::hear` is the same by value.
+#![tactic(auto)]
+
 ghost use Rattle.std.specs.Prelude.{◌≤◌, ◌≡◌};
 ghost use Rattle.telegram.specs.Telegrams.{packet_in, step_in, telegram_of, read_refusal, read_of};
 ghost use Rattle.hand.specs.Lent.{hand_in};

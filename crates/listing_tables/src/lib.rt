@@ -1,5 +1,7 @@
 // What a listing says of each telegram that was heard: the table that it completed, its refusal, or nothing. The picture stands in the
 // lent memory of the listener.
+#![tactic(auto)]
+
 mod entries;
 
 ghost use Rattle.std.specs.Prelude.{◌≡◌, ◌++◌, length, ◌+◌, ◌≤◌};

@@ -1,5 +1,7 @@
 // What the program read_signals writes, computed in memory: calls in a slice, each after its length in two bytes, to lines in a lent
 // buffer.
+#![tactic(auto)]
+
 ghost use Rattle.std.specs.Prelude.{◌≡◌};
 ghost use Rattle.kit.specs.Put.{Poured};
 ghost use Rattle.signals_output.specs.Lines.{line_of};

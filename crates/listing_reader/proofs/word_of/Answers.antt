@@ -5,7 +5,6 @@ use Rattle.kit.proofs.Ladder.{ladder_decides, ladder-silent}
 use Rattle.listing_lines.specs.Lines.{header_line}
 use Rattle.listing_reader.specs.Fixed.{word_of}
 use Rattle.listing_reader.specs.declared.Word.TheVariants.{Header, New, Carried, Refused, Other}
-use borrow.Author.Rules.{rules}
 use Rattle.listing_reader.proofs.word_of.Goals as goal
 
 pub returns-then-is_same : goal.returns-then-is_same

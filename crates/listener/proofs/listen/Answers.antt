@@ -1,0 +1,54 @@
+-- `listen`: of the step last taken, a second copy, or one more of the set that it goes into.
+use Prim.Native.Nat.{◌≤◌}
+use mathlib.Core.Bool.{true, false}
+use mathlib.Core.Path.{◌≡◌, refl, sym, ap, ap₂, subst, ◌∙◌}
+use lib.ListN.{length}
+use Rattle.telegram.specs.Telegrams.{packet_in, step_in}
+use Rattle.telegram.proofs.Rows.{read_length}
+use Rattle.memory.specs.Memory.{memory_size}
+use Rattle.hand.specs.Lent.{hand_in}
+use Rattle.hand.specs.Sets.{set_for, is_held}
+use Rattle.last_step.specs.LastSteps.{is_last}
+use Rattle.last_step.specs.Lent.{last_in}
+use Rattle.listener.specs.Answers.{told_of}
+use Rattle.listener.specs.Lent.{memory_for}
+use Rattle.listener.proofs.Lent.{left-last, left-found, left-joined}
+use borrow.Author.Rules.{rules}
+use Rattle.listener.proofs.listen.Goals as goal
+
+pub returns-then-is_last : goal.returns-then-is_last
+returns-then-is_last c =
+    let memory = c.args.memory.now in
+    let telegram = c.args.telegram.now in
+    let whole : length telegram ≡ 26 = read_length telegram 0 (sym c.requires) refl in
+    let small : packet_in telegram ≤ 7 = subst (λ n. n ≤ 7) c.packet_in-packet.ensures.0 c.packet_in-packet.ensures.1 in
+    let later : is_last (last_in memory) (step_in telegram) ≡ true =
+    sym (ap₂ is_last c.last_in-last.ensures c.step_in-step.ensures) ∙ (sym c.is_last.ensures ∙ c.if-is_last.true) in
+    left-last memory telegram whole small later
+
+pub returns-then-find_or_begin : goal.returns-then-find_or_begin
+returns-then-find_or_begin c =
+    let memory = c.args.memory.now in
+    let telegram = c.args.telegram.now in
+    let whole : length telegram ≡ 26 = read_length telegram 0 (sym c.requires) refl in
+    let small : packet_in telegram ≤ 7 = subst (λ n. n ≤ 7) c.packet_in-packet.ensures.0 c.packet_in-packet.ensures.1 in
+    let later : is_last (last_in memory) (step_in telegram) ≡ false =
+    sym (ap₂ is_last c.last_in-last.ensures c.step_in-step.ensures) ∙ (sym c.is_last.ensures ∙ c.if-is_last.false) in
+    let held : is_held (set_for (hand_in memory) (step_in telegram)) (packet_in telegram) ≡ true =
+    sym (ap₂ (λ s p. is_held (set_for (hand_in memory) s) p) c.step_in-step.ensures c.packet_in-packet.ensures.0) ∙ (sym c.find_or_begin.ensures.0 ∙ c.if-find_or_begin.true) in
+    let long : length memory ≡ memory_size = search rules in
+    left-found memory telegram whole small long later _ (c.find_or_begin.ensures.1 ∙ ap (memory_for memory) c.step_in-step.ensures) held
+
+pub returns : goal.returns
+returns c =
+    let memory = c.args.memory.now in
+    let telegram = c.args.telegram.now in
+    let whole : length telegram ≡ 26 = read_length telegram 0 (sym c.requires) refl in
+    let small : packet_in telegram ≤ 7 = subst (λ n. n ≤ 7) c.packet_in-packet.ensures.0 c.packet_in-packet.ensures.1 in
+    let later : is_last (last_in memory) (step_in telegram) ≡ false =
+    sym (ap₂ is_last c.last_in-last.ensures c.step_in-step.ensures) ∙ (sym c.is_last.ensures ∙ c.if-is_last.false) in
+    let free : is_held (set_for (hand_in memory) (step_in telegram)) (packet_in telegram) ≡ false =
+    sym (ap₂ (λ s p. is_held (set_for (hand_in memory) s) p) c.step_in-step.ensures c.packet_in-packet.ensures.0) ∙ (sym c.find_or_begin.ensures.0 ∙ c.if-find_or_begin.false) in
+    let long : length memory ≡ memory_size = search rules in
+    left-joined memory telegram whole small long later _ (c.find_or_begin.ensures.1 ∙ ap (memory_for memory) c.step_in-step.ensures) free
+    (record { told = told_of c.add.result; memory = c.add.new.memory }) c.add.ensures
