@@ -15,7 +15,7 @@ use Rattle.wire.specs.Steps.{steps}
 use Rattle.wire.specs.Verdicts.{number_of}
 use Rattle.condition.specs.declared.slots.Slot.{Slot}
 use Rattle.wire.specs.declared.verdicts.Verdict.TheVariants.{Accepted, Refused}
-use Rattle.telegram.specs.Tables.{packets, first_packet, four_of}
+use Rattle.telegram.specs.Tables.{first_packet, four_of}
 use Rattle.condition.specs.Slots.{slot_count}
 use Rattle.telegram.specs.declared.Telegram.{Telegram}
 use Rattle.picture.specs.Pictures.{count_of, clashes}

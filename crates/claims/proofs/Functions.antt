@@ -6,7 +6,7 @@ use mathlib.Core.Logic.{◌↔◌}
 use mathlib.Core.Bool.{Bool}
 use mathlib.Core.List.{List, []}
 use contract.Monad.{fact_mono}
-use denote.Ref.{Bor}
+use denote.Ref.{Bor, MutBor}
 use Rattle.wire.specs.Distances.{distance_of}
 use Rattle.wire.specs.declared.distances.Distance.{Distance}
 use Rattle.wire.specs.declared.verdicts.Verdict.{Verdict}
@@ -32,7 +32,11 @@ use Rattle.claims.specs.Functions.{OfDistance, OfRead, OfWriteTelegram, OfFreshD
 
 -- bytes that are lent, wherever they stand
 abbrev lent : List ℕ → Bor (List ℕ)
-lent bytes = record { now = bytes; ref_ptr = (0, 0); ghost_name = 0 }
+lent bytes = record { now = bytes; ref_ptr = (0, 0) }
+
+-- the same of those that are lent to be changed
+abbrev lent_out : List ℕ → MutBor (List ℕ)
+lent_out bytes = record { now = bytes; ref_ptr = (0, 0); ghost_name = 0 }
 
 pub distance_says : (Such : ℕ → Distance → Type 0) → OfDistance Such ↔ ((word : ℕ) → Such word (distance_of word))
 distance_says Such = (
@@ -80,7 +84,7 @@ fresh_signals-says Such = (
 pub write-telegram-says : (Such : Telegram → List ℕ → Verdict → List ℕ → Type 0)
     → OfWriteTelegram Such ↔ ((telegram : Telegram) (buffer : List ℕ) → Such telegram buffer (write_verdict telegram buffer) (written telegram buffer))
 write-telegram-says Such = (
-  λ promised telegram buffer. promised ([], tt) (telegram, (lent buffer, tt)) (write_verdict telegram buffer) (tt, (written telegram buffer, tt)) (refl, refl),
+  λ promised telegram buffer. promised ([], tt) (telegram, (lent_out buffer, tt)) (write_verdict telegram buffer) (tt, (written telegram buffer, tt)) (refl, refl),
   λ plain κs (telegram, (buffer, _)) verdict (_, (after, _)) p.
       subst⁻¹ (λ v. Such telegram buffer.now v after) p.0 (subst⁻¹ (Such telegram buffer.now (write_verdict telegram buffer.now)) p.1 (plain telegram buffer.now)),
 )
@@ -89,7 +93,7 @@ pub write-says : (Such : Desk → ℕ → List ℕ → Verdict → List ℕ → 
     → OfWrite Such ↔ ((desk : Desk) (packet : ℕ) (buffer : List ℕ) → Such desk packet buffer (write_verdict (packet_of desk packet) buffer) (written (packet_of desk packet) buffer))
 write-says Such = (
   λ promised desk packet buffer.
-      promised ([], tt) (desk, (packet, (lent buffer, tt))) (write_verdict (packet_of desk packet) buffer) (tt, (tt, (written (packet_of desk packet) buffer, tt))) (refl, refl),
+      promised ([], tt) (desk, (packet, (lent_out buffer, tt))) (write_verdict (packet_of desk packet) buffer) (tt, (tt, (written (packet_of desk packet) buffer, tt))) (refl, refl),
   λ plain κs (desk, (packet, (buffer, _))) verdict (_, (_, (after, _))) p.
       subst⁻¹ (λ v. Such desk packet buffer.now v after) p.0
       (subst⁻¹ (Such desk packet buffer.now (write_verdict (packet_of desk packet) buffer.now)) p.1 (plain desk packet buffer.now)),
@@ -107,7 +111,7 @@ hear-says Such = (
 pub hear_in-says : (Such : List ℕ → List ℕ → Vehicle.Answer → List ℕ → Type 0)
     → OfHearIn Such ↔ ((memory telegram : List ℕ) (answer : Vehicle.Answer) (after : List ℕ) → HeardIn carries memory telegram answer after → Such memory telegram answer after)
 hear_in-says Such = (
-  λ promised memory telegram answer after p. promised ([], ([], tt)) (lent memory, (lent telegram, tt)) answer (after, (tt, tt)) p,
+  λ promised memory telegram answer after p. promised ([], ([], tt)) (lent_out memory, (lent telegram, tt)) answer (after, (tt, tt)) p,
   λ plain κs (memory, (telegram, _)) answer (after, _) p. plain memory.now telegram.now answer after p,
 )
 

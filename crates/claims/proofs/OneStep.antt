@@ -1,5 +1,5 @@
 -- One step as the page tells it: each sentence from what the desk promises of a step and of the turns of new orders.
-use Prim.Native.Nat.{ℕ, zero, suc, ◌+◌, ◌-◌, ◌<◌, ◌≤◌}
+use Prim.Native.Nat.{ℕ, zero, suc, ◌+◌, ◌<◌, ◌≤◌}
 use mathlib.Core.Path.{◌≡◌, refl, sym, ap, ◌∙◌, subst}
 use mathlib.Core.Logic.{inl, inr, ◌↔◌}
 use mathlib.Core.Bool.{true}
@@ -24,7 +24,7 @@ use Rattle.desk.specs.declared.Desk.{Desk}
 use Rattle.desk.proofs.Promises as promises
 use Rattle.desk.proofs.Seating.{inside, made-coded}
 use Rattle.desk.proofs.Stepping.{Sound, next-orderly, next_step_lem, keeps, live-listed, has_words}
-use Rattle.desk.proofs.Tracing.{fresh_at, run_none, run_more, run_sound, older, live_newest}
+use Rattle.desk.proofs.Tracing.{fresh_at, run_none, run_more, run_sound, live_newest}
 use Rattle.claims.specs.Calls.{Present, accepted, steps_made, list_in}
 use Rattle.claims.specs.Step.{HasSlot, Live, number_in, IsNew, TakenAtTurn, EndedIn, NumberRests, LastGiven, none_yet, OneNew, OneStep}
 use Rattle.claims.proofs.Arriving.{live_test, test_live, unlive_test, one_more, new-order, last-after}

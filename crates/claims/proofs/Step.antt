@@ -29,7 +29,7 @@ use Rattle.desk.specs.declared.Desk.{Desk}
 use Rattle.desk.proofs.Making.{accepts, made-sound}
 use Rattle.desk.proofs.Promises as promises
 use Rattle.desk.proofs.Seating.{inside, ordered}
-use Rattle.desk.proofs.Tracing.{fresh_at, older}
+use Rattle.desk.proofs.Tracing.{fresh_at}
 use Rattle.claims.specs.Calls.{desk_after, accepted, steps_made, up_to, desk_of}
 use Rattle.claims.specs.Step.{number_in, EndedIn, NumberRests, OneStep, TheStep}
 use Rattle.claims.proofs.Ended.{ending_of, ended-then, rests-kept}

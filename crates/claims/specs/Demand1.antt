@@ -21,11 +21,17 @@ use Rattle.listener.specs.Lent.{listener_in}
 use Rattle.listener.specs.Listeners.{holding, hear_rows}
 use Rattle.train_codes.specs.Refusals.{train_rows}
 use Rattle.desk.proofs.Desk.accept as accept
+use Rattle.desk.specs.contracts.Desk.accept as accept-contract
 use Rattle.desk_writer.proofs.write as write
+use Rattle.desk_writer.specs.contracts.write as write-contract
 use Rattle.telegram_reader.proofs.read as read
+use Rattle.telegram_reader.specs.contracts.read as read-contract
 use Rattle.listener.proofs.Listener.hear as hear
+use Rattle.listener.specs.contracts.Listener.hear as hear-contract
 use Rattle.listener.proofs.hear_in as hear-in
+use Rattle.listener.specs.contracts.hear_in as hear-in-contract
 use Rattle.signals.proofs.Signals.update as update
+use Rattle.signals.specs.contracts.Signals.update as update-contract
 use Rattle.signals_in_place.specs.contracts.update as update-lent
 use Rattle.claims.specs.Functions.{OfRead, OfAccept, OfWrite, OfHear, OfHearIn, OfUpdate, OfUpdateLent}
 
@@ -37,7 +43,7 @@ RefusedBy rows refused answer = (number : ℕ) → (answer ≡ refused number) �
 
 pub record Lists : Type 0 where
   -- M-1a: there is one answer and one next desk
-  pub defined : OneAnswer accept.ended accept.Reads.Learnt
+  pub defined : OneAnswer accept-contract.ended accept.Reads.Learnt
   -- M-1d, R-01 to R-08, R-18: a list is refused under the number of document 01
   pub refused : OfAccept (λ desk list answer. RefusedBy (list_rows desk.places list) ruled_refused (ruling_of answer.verdict))
   -- M-1f, D-18, R-24: a refused list changes nothing of the desk
@@ -47,10 +53,10 @@ pub record Lists : Type 0 where
 
 pub record Telegrams : Type 0 where
   -- M-1b, M-1d, R-06, R-10 to R-14, R-20: reading
-  pub read-defined : OneAnswer read.ended read.Reads.Learnt
+  pub read-defined : OneAnswer read-contract.ended read.Reads.Learnt
   pub read-refused : OfRead (λ bytes reading. RefusedBy (read_rows bytes) ruled_refused (ruling_of reading.verdict))
   -- M-1b, M-1d, R-06, R-10 to R-15, R-20, R-21: hearing
-  pub defined : OneAnswer hear.ended hear.Reads.Learnt
+  pub defined : OneAnswer hear-contract.ended hear.Reads.Learnt
   pub refused : OfHear (λ listener telegram heard. RefusedBy (hear_rows listener telegram) refused_as (told_of heard.answer))
   -- M-1f, L-10, L-11, R-24: 15 drops the set in hand, and no other refusal changes the listener
   pub dropped : OfHear (λ listener telegram heard. told_of heard.answer ≡ refused_as 15 → heard.listener ≡ holding listener (begun 0))
@@ -59,7 +65,7 @@ pub record Telegrams : Type 0 where
 -- W-04: the same where the listener stands in memory that is lent, `listener::hear_in(memory, telegram)`: `listener_in` is the listener that
 -- the memory means
 pub record TelegramsLent : Type 0 where
-  pub defined : OneAnswer hear-in.ended hear-in.Reads.Learnt
+  pub defined : OneAnswer hear-in-contract.ended hear-in.Reads.Learnt
   pub refused : OfHearIn (λ memory telegram answer after. RefusedBy (hear_rows (listener_in memory) telegram) refused_as (told_of answer))
   -- M-1f, L-10: 15 drops the set in hand
   pub dropped : OfHearIn (λ memory telegram answer after. told_of answer ≡ refused_as 15 → listener_in after ≡ holding (listener_in memory) (begun 0))
@@ -70,7 +76,7 @@ pub record TelegramsLent : Type 0 where
 
 pub record TrainTelegrams : Type 0 where
   -- M-1b: there is one answer and one next record
-  pub defined : OneAnswer update.ended update.Reads.Learnt
+  pub defined : OneAnswer update-contract.ended update.Reads.Learnt
   -- M-1d, R-10, R-16, R-17, R-22: a telegram is refused under the number of document 01
   pub refused : OfUpdate (λ signals present telegram updated. present ≡ true → RefusedBy (train_rows telegram) refusal_under (noted_of updated.answer))
   -- R-23, C-07: and it is accepted when no row holds, and never else, so that no reader may miss a good one
@@ -82,7 +88,7 @@ pub record TrainTelegrams : Type 0 where
 
 -- S-01: the same where the record is: `signals_in_place::update(held, present, telegram)`
 pub record TrainTelegramsLent : Type 2 where
-  pub defined : Asserted.OneAnswerLent update-lent.ended (λ M 𝓤. update-lent.clauses 𝓤)
+  pub defined : Asserted.OneAnswerLent update-lent.ended (λ M 𝓤 𝓛. update-lent.clauses 𝓛)
   pub refused : OfUpdateLent (λ signals present telegram answer after. present ≡ true → RefusedBy (train_rows telegram) refusal_under (noted_of answer))
   pub accepted_when : OfUpdateLent (λ signals present telegram answer after. present ≡ true → (noted_of answer ≡ acceptance) ↔ NoneHolds (train_rows telegram))
   pub absent : OfUpdateLent (λ signals present telegram answer after. present ≡ false → (noted_of answer ≡ absence) × (after ≡ missed_by signals))
@@ -92,7 +98,7 @@ pub record TrainTelegramsLent : Type 2 where
 
 pub record Buffers : Type 0 where
   -- M-1c: there is one verdict, and one last value of the buffer
-  pub defined : OneAnswer write.ended write.Reads.Learnt
+  pub defined : OneAnswer write-contract.ended write.Reads.Learnt
   -- M-1d, R-09, R-10, R-19: it is refused under the number of document 01
   pub refused : OfWrite (λ desk packet buffer verdict after. RefusedBy (write_rows packet (length buffer)) ruled_refused (ruling_of verdict))
   -- M-1e, R-25: a refused call changes no byte

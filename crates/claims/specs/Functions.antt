@@ -34,69 +34,81 @@ use Rattle.signals.specs.declared.Answer as Train
 use Rattle.signals.specs.declared.Signals.{Signals}
 use Rattle.signals.specs.declared.Updated.{Updated}
 use Rattle.wire.proofs.distance_of as distance-call
+use Rattle.wire.specs.contracts.distance_of as distance-call-contract
 use Rattle.telegram_reader.proofs.read as read
+use Rattle.telegram_reader.specs.contracts.read as read-contract
 use Rattle.telegram_writer.proofs.write as write-telegram
+use Rattle.telegram_writer.specs.contracts.write as write-telegram-contract
 use Rattle.desk.proofs.Desk.accept as accept
+use Rattle.desk.specs.contracts.Desk.accept as accept-contract
 use Rattle.desk_writer.proofs.table_of as table-call
+use Rattle.desk_writer.specs.contracts.table_of as table-call-contract
 use Rattle.desk_writer.proofs.write as write
+use Rattle.desk_writer.specs.contracts.write as write-contract
 use Rattle.desk.proofs.Desk.fresh as fresh_desk_lem
+use Rattle.desk.specs.contracts.Desk.fresh as fresh_desk_lem-contract
 use Rattle.listener.proofs.Listener.fresh as fresh_listener_lem
+use Rattle.listener.specs.contracts.Listener.fresh as fresh_listener_lem-contract
 use Rattle.listener.proofs.Listener.hear as hear
+use Rattle.listener.specs.contracts.Listener.hear as hear-contract
 use Rattle.listener.proofs.hear_in as hear-in
+use Rattle.listener.specs.contracts.hear_in as hear-in-contract
 use Rattle.signals.proofs.Signals.fresh as fresh_signals_lem
+use Rattle.signals.specs.contracts.Signals.fresh as fresh_signals_lem-contract
 use Rattle.signals.proofs.Signals.update as update
+use Rattle.signals.specs.contracts.Signals.update as update-contract
 use Rattle.signals_in_place.specs.contracts.update as update-lent
 
 -- `wire::distance_of(word)`
 abbrev pub OfDistance : (ℕ → Distance → Type 0) → Type 0
-OfDistance Such = Promised distance-call.ended distance-call.Reads.Learnt (λ κs (word, _) distance lasts. Such word distance)
+OfDistance Such = Promised distance-call-contract.ended distance-call.Reads.Learnt (λ κs (word, _) distance lasts. Such word distance)
 
 -- `telegram_reader::read(bytes)`
 abbrev pub OfRead : (List ℕ → Reading → Type 0) → Type 0
-OfRead Such = Promised read.ended read.Reads.Learnt (λ κs (bytes, _) reading lasts. Such bytes.now reading)
+OfRead Such = Promised read-contract.ended read.Reads.Learnt (λ κs (bytes, _) reading lasts. Such bytes.now reading)
 
 -- `telegram_writer::write(telegram, buffer)`
 abbrev pub OfWriteTelegram : (Telegram → List ℕ → Verdict → List ℕ → Type 0) → Type 0
-OfWriteTelegram Such = Promised write-telegram.ended write-telegram.Reads.Learnt (λ κs (telegram, (buffer, _)) verdict (_, (after, _)). Such telegram buffer.now verdict after)
+OfWriteTelegram Such = Promised write-telegram-contract.ended write-telegram.Reads.Learnt (λ κs (telegram, (buffer, _)) verdict (_, (after, _)). Such telegram buffer.now verdict after)
 
 -- `Desk::fresh()`
 abbrev pub OfFreshDesk : (Desk → Type 0) → Type 0
-OfFreshDesk Such = Promised fresh_desk_lem.ended fresh_desk_lem.Reads.Learnt (λ κs _ desk lasts. Such desk)
+OfFreshDesk Such = Promised fresh_desk_lem-contract.ended fresh_desk_lem.Reads.Learnt (λ κs _ desk lasts. Such desk)
 
 -- `Desk::accept(desk, list)`
 abbrev pub OfAccept : (Desk → List ℕ → Answer → Type 0) → Type 0
-OfAccept Such = Promised accept.ended accept.Reads.Learnt (λ κs (desk, (list, _)) answer lasts. Such desk list.now answer)
+OfAccept Such = Promised accept-contract.ended accept.Reads.Learnt (λ κs (desk, (list, _)) answer lasts. Such desk list.now answer)
 
 -- `desk_writer::table_of(desk)`
 abbrev pub OfTable : (Desk → List Slot → Type 0) → Type 0
-OfTable Such = Promised table-call.ended table-call.Reads.Learnt (λ κs (desk, _) table lasts. Such desk table)
+OfTable Such = Promised table-call-contract.ended table-call.Reads.Learnt (λ κs (desk, _) table lasts. Such desk table)
 
 -- `desk_writer::write(desk, packet, buffer)`
 abbrev pub OfWrite : (Desk → ℕ → List ℕ → Verdict → List ℕ → Type 0) → Type 0
-OfWrite Such = Promised write.ended write.Reads.Learnt (λ κs (desk, (packet, (buffer, _))) verdict (_, (_, (after, _))). Such desk packet buffer.now verdict after)
+OfWrite Such = Promised write-contract.ended write.Reads.Learnt (λ κs (desk, (packet, (buffer, _))) verdict (_, (_, (after, _))). Such desk packet buffer.now verdict after)
 
 -- `Listener::fresh()`
 abbrev pub OfFreshListener : (Listener → Type 0) → Type 0
-OfFreshListener Such = Promised fresh_listener_lem.ended fresh_listener_lem.Reads.Learnt (λ κs _ listener lasts. Such listener)
+OfFreshListener Such = Promised fresh_listener_lem-contract.ended fresh_listener_lem.Reads.Learnt (λ κs _ listener lasts. Such listener)
 
 -- `Listener::hear(listener, telegram)`
 abbrev pub OfHear : (Listener → List ℕ → Heard → Type 0) → Type 0
-OfHear Such = Promised hear.ended hear.Reads.Learnt (λ κs (listener, (telegram, _)) heard lasts. Such listener telegram.now heard)
+OfHear Such = Promised hear-contract.ended hear.Reads.Learnt (λ κs (listener, (telegram, _)) heard lasts. Such listener telegram.now heard)
 
 -- `listener::hear_in(memory, telegram)`: the 310 bytes before, and after
 abbrev pub OfHearIn : (List ℕ → List ℕ → Vehicle.Answer → List ℕ → Type 0) → Type 0
-OfHearIn Such = Promised hear-in.ended hear-in.Reads.Learnt (λ κs (memory, (telegram, _)) answer (after, _). Such memory.now telegram.now answer after)
+OfHearIn Such = Promised hear-in-contract.ended hear-in.Reads.Learnt (λ κs (memory, (telegram, _)) answer (after, _). Such memory.now telegram.now answer after)
 
 -- `Signals::fresh()`
 abbrev pub OfFreshSignals : (Signals → Type 0) → Type 0
-OfFreshSignals Such = Promised fresh_signals_lem.ended fresh_signals_lem.Reads.Learnt (λ κs _ signals lasts. Such signals)
+OfFreshSignals Such = Promised fresh_signals_lem-contract.ended fresh_signals_lem.Reads.Learnt (λ κs _ signals lasts. Such signals)
 
 -- `Signals::update(signals, present, telegram)`
 abbrev pub OfUpdate : (Signals → Bool → List ℕ → Updated → Type 0) → Type 0
-OfUpdate Such = Promised update.ended update.Reads.Learnt (λ κs (signals, (present, (telegram, _))) updated lasts. Such signals present telegram.now updated)
+OfUpdate Such = Promised update-contract.ended update.Reads.Learnt (λ κs (signals, (present, (telegram, _))) updated lasts. Such signals present telegram.now updated)
 
 -- `signals_in_place::update(held, present, telegram)`: the record before, and after
 abbrev pub OfUpdateLent : (Signals → Bool → List ℕ → Train.Answer → Signals → Type 0) → Type 2
 OfUpdateLent Such =
-    Asserted.PromisedLent update-lent.ended (λ M 𝓤. update-lent.clauses 𝓤)
+    Asserted.PromisedLent update-lent.ended (λ M 𝓤 𝓛. update-lent.clauses 𝓛)
     (λ κs (held, (present, (telegram, _))) answer (after, _). Such held.now present telegram.now answer after)

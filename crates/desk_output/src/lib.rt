@@ -1,5 +1,7 @@
 // What the program run_desk writes: the table of a desk as its five telegrams, a line for each list that is refused, and one where
 // the input ends inside a list.
+#![tactic(auto)]
+
 ghost use Rattle.std.specs.Prelude.{◌≤◌};
 ghost use Rattle.kit.specs.Put.{Poured};
 ghost use Rattle.telegram.specs.Telegrams.{bytes_of};

@@ -27,7 +27,7 @@ module _ (desk : Desk) (input : List ℕ) where
 made-from : {desk : Desk} → Made desk → (lists : List (List ℕ)) → Made (desk_from desk lists)
 unfolding desk_from
 made-from m [] = m
-made-from m (list ∷ later) = made-from (called m list) later
+made-from {desk = desk} m (list ∷ later) = made-from {desk = (accept_of base_rest desk list).desk} (called m list) later
 
 -- so that a next list may be handed to it
 pub made-at-end : (input : List ℕ) → Made (desk_at_end input)

@@ -1,5 +1,7 @@
 // What the program run_desk writes, computed in memory: lists in a slice, each after its length in two bytes, to tables and lines in two
 // lent buffers; and the desk that the lists leave.
+#![tactic(auto)]
+
 ghost use Rattle.std.specs.Prelude.{◌≤◌, ◌≡◌, length};
 ghost use Rattle.kit.specs.Put.{Poured};
 ghost use Rattle.desk.specs.Desks.{base_rest, accept_of, Made};

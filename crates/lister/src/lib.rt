@@ -1,5 +1,7 @@
 // A recording of telegrams, listed piece by piece. A piece is any bytes: a telegram may begin in one piece and end in a later one. What
 // has no room in the lent buffer is dropped, and the answer is the place past what was put.
+#![tactic(auto)]
+
 ghost use Rattle.std.specs.Prelude.{◌+◌, ◌-◌, ◌*◌, ◌/◌, ◌≤◌, min, ◌≡◌, [], ◌∷◌, length, cond, ◌⊎◌, eqb};
 ghost use Rattle.kit.specs.Put.{Poured};
 ghost use Rattle.listener.specs.Lent.{listener_in, HeardIn};

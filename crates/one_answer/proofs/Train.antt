@@ -6,60 +6,66 @@ use Rattle.kit.specs.Asserted as Asserted
 use Rattle.kit.proofs.Contracts.{agree, agree-poured}
 use Rattle.claims.proofs.Demand1.{demand1}
 use Rattle.train_codes.proofs as train-codes
+use Rattle.train_codes.specs.contracts as train-codes-contracts
 use Rattle.train_telegram.proofs as train-telegram
+use Rattle.train_telegram.specs.contracts as train-telegram-contracts
 use Rattle.signals.proofs as signals
+use Rattle.signals.specs.contracts as signals-contracts
 use Rattle.signals.proofs.Answers.{updating_apart}
 use Rattle.signals_in_place.proofs as signals-in-place
+use Rattle.signals_in_place.specs.contracts as signals-in-place-contracts
 use Rattle.signals_output.proofs as signals-output
+use Rattle.signals_output.specs.contracts as signals-output-contracts
 use Rattle.signal_runs.proofs as signal-runs
+use Rattle.signal_runs.specs.contracts as signal-runs-contracts
 
 -- ---- train_codes
 
-pub train_codes-cab_of : OneAnswer train-codes.cab_of.ended train-codes.cab_of.Reads.Learnt
+pub train_codes-cab_of : OneAnswer train-codes-contracts.cab_of.ended train-codes.cab_of.Reads.Learnt
 train_codes-cab_of κs handed answer other lasts others p q = (agree p q, refl)
 
-pub train_codes-brake_of : OneAnswer train-codes.brake_of.ended train-codes.brake_of.Reads.Learnt
+pub train_codes-brake_of : OneAnswer train-codes-contracts.brake_of.ended train-codes.brake_of.Reads.Learnt
 train_codes-brake_of κs handed answer other lasts others p q = (agree p q, refl)
 
-pub train_codes-isolation_of : OneAnswer train-codes.isolation_of.ended train-codes.isolation_of.Reads.Learnt
+pub train_codes-isolation_of : OneAnswer train-codes-contracts.isolation_of.ended train-codes.isolation_of.Reads.Learnt
 train_codes-isolation_of κs handed answer other lasts others p q = (agree p q, refl)
 
-pub train_codes-refusal_of : OneAnswer train-codes.refusal_of.ended train-codes.refusal_of.Reads.Learnt
+pub train_codes-refusal_of : OneAnswer train-codes-contracts.refusal_of.ended train-codes.refusal_of.Reads.Learnt
 train_codes-refusal_of κs handed answer other lasts others p q = (agree p q, refl)
 
 -- ---- train_telegram
 
-pub train_telegram-read : OneAnswer train-telegram.read.ended train-telegram.read.Reads.Learnt
+pub train_telegram-read : OneAnswer train-telegram-contracts.read.ended train-telegram.read.Reads.Learnt
 train_telegram-read κs handed answer other lasts others p q = (agree p q, refl)
 
-pub train_telegram-silent : OneAnswer train-telegram.states.States.silent.ended train-telegram.states.States.silent.Reads.Learnt
+pub train_telegram-silent : OneAnswer train-telegram-contracts.states.States.silent.ended train-telegram.states.States.silent.Reads.Learnt
 train_telegram-silent κs handed answer other lasts others p q = (agree p q, refl)
 
 -- ---- signals
 
-pub signals-fresh : OneAnswer signals.Signals.fresh.ended signals.Signals.fresh.Reads.Learnt
+pub signals-fresh : OneAnswer signals-contracts.Signals.fresh.ended signals.Signals.fresh.Reads.Learnt
 signals-fresh κs handed answer other lasts others p q = (agree p q, refl)
 
-pub signals-update : OneAnswer signals.Signals.update.ended signals.Signals.update.Reads.Learnt
+pub signals-update : OneAnswer signals-contracts.Signals.update.ended signals.Signals.update.Reads.Learnt
 signals-update κs handed answer other lasts others p q = (updating_apart answer other (agree p q), refl)
 
 -- ---- signals_in_place
 
-pub signals_in_place-update : Asserted.OneAnswerLent signals-in-place.update.ended (λ M 𝓤. signals-in-place.update.clauses 𝓤)
+pub signals_in_place-update : Asserted.OneAnswerLent signals-in-place-contracts.update.ended (λ M 𝓤 𝓛. signals-in-place-contracts.update.clauses 𝓛)
 signals_in_place-update = demand1.train-lent.defined
 
-pub signals_in_place-lend_and_update : OneAnswer signals-in-place.lend_and_update.ended signals-in-place.lend_and_update.Reads.Learnt
+pub signals_in_place-lend_and_update : OneAnswer signals-in-place-contracts.lend_and_update.ended signals-in-place.lend_and_update.Reads.Learnt
 signals_in_place-lend_and_update κs handed answer other lasts others p q = (updating_apart answer other (agree p q), refl)
 
 -- ---- signals_output
 
-pub signals_output-put_line : OneAnswer signals-output.put_line.ended signals-output.put_line.Reads.Learnt
+pub signals_output-put_line : OneAnswer signals-output-contracts.put_line.ended signals-output.put_line.Reads.Learnt
 signals_output-put_line κs handed answer other lasts others p q = given (agree-poured p q) (λ (place, bytes). (place, ap (λ b. (tt, (b, (tt, tt)))) bytes))
 
-pub signals_output-put_short : OneAnswer signals-output.put_short.ended signals-output.put_short.Reads.Learnt
+pub signals_output-put_short : OneAnswer signals-output-contracts.put_short.ended signals-output.put_short.Reads.Learnt
 signals_output-put_short κs handed answer other lasts others p q = given (agree-poured p q) (λ (place, bytes). (place, ap (λ b. (b, (tt, tt))) bytes))
 
 -- ---- signal_runs
 
-pub signal_runs-read : OneAnswer signal-runs.read.ended signal-runs.read.Reads.Learnt
+pub signal_runs-read : OneAnswer signal-runs-contracts.read.ended signal-runs.read.Reads.Learnt
 signal_runs-read κs handed answer other lasts others p q = given (agree-poured p q) (λ (place, bytes). (place, ap (λ b. (tt, (b, tt))) bytes))

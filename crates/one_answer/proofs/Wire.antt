@@ -4,75 +4,79 @@ use Rattle.kit.proofs.Cases.{given}
 use Rattle.kit.specs.Contracts.{OneAnswer}
 use Rattle.kit.proofs.Contracts.{agree, agree-poured}
 use Rattle.wire.proofs as wire
+use Rattle.wire.specs.contracts as wire-contracts
 use Rattle.text.proofs as text
+use Rattle.text.specs.contracts as text-contracts
 use Rattle.page.proofs as page
+use Rattle.page.specs.contracts as page-contracts
 use Rattle.page.proofs.Pages.{agree_laid}
 use Rattle.frames.proofs as frames
+use Rattle.frames.specs.contracts as frames-contracts
 
 -- ---- wire
 
-pub wire-word : OneAnswer wire.word.ended wire.word.Reads.Learnt
+pub wire-word : OneAnswer wire-contracts.word.ended wire.word.Reads.Learnt
 wire-word κs handed answer other lasts others p q = (agree p q, refl)
 
-pub wire-byte_at : OneAnswer wire.byte_at.ended wire.byte_at.Reads.Learnt
+pub wire-byte_at : OneAnswer wire-contracts.byte_at.ended wire.byte_at.Reads.Learnt
 wire-byte_at κs handed answer other lasts others p q = (agree p q, refl)
 
-pub wire-word_at : OneAnswer wire.word_at.ended wire.word_at.Reads.Learnt
+pub wire-word_at : OneAnswer wire-contracts.word_at.ended wire.word_at.Reads.Learnt
 wire-word_at κs handed answer other lasts others p q = (agree p q, refl)
 
-pub wire-long_at : OneAnswer wire.long_at.ended wire.long_at.Reads.Learnt
+pub wire-long_at : OneAnswer wire-contracts.long_at.ended wire.long_at.Reads.Learnt
 wire-long_at κs handed answer other lasts others p q = (agree p q, refl)
 
-pub wire-distance_of : OneAnswer wire.distance_of.ended wire.distance_of.Reads.Learnt
+pub wire-distance_of : OneAnswer wire-contracts.distance_of.ended wire.distance_of.Reads.Learnt
 wire-distance_of κs handed answer other lasts others p q = (agree p q, refl)
 
-pub wire-gap : OneAnswer wire.gap.ended wire.gap.Reads.Learnt
+pub wire-gap : OneAnswer wire-contracts.gap.ended wire.gap.Reads.Learnt
 wire-gap κs handed answer other lasts others p q = (agree p q, refl)
 
-pub wire-above : OneAnswer wire.above.ended wire.above.Reads.Learnt
+pub wire-above : OneAnswer wire-contracts.above.ended wire.above.Reads.Learnt
 wire-above κs handed answer other lasts others p q = (agree p q, refl)
 
 -- ---- text
 
-pub text-put_byte : OneAnswer text.put_byte.ended text.put_byte.Reads.Learnt
+pub text-put_byte : OneAnswer text-contracts.put_byte.ended text.put_byte.Reads.Learnt
 text-put_byte κs handed answer other lasts others p q = given (agree-poured p q) (λ (place, bytes). (place, ap (λ b. (b, (tt, (tt, tt)))) bytes))
 
-pub text-put_words : OneAnswer text.put_words.ended text.put_words.Reads.Learnt
+pub text-put_words : OneAnswer text-contracts.put_words.ended text.put_words.Reads.Learnt
 text-put_words κs handed answer other lasts others p q = given (agree-poured p q) (λ (place, bytes). (place, ap (λ b. (b, (tt, (tt, tt)))) bytes))
 
-pub text-put_decimal : OneAnswer text.put_decimal.ended text.put_decimal.Reads.Learnt
+pub text-put_decimal : OneAnswer text-contracts.put_decimal.ended text.put_decimal.Reads.Learnt
 text-put_decimal κs handed answer other lasts others p q = given (agree-poured p q) (λ (place, bytes). (place, ap (λ b. (b, (tt, (tt, tt)))) bytes))
 
 -- ---- page
 
-pub page-put_byte_if : OneAnswer page.put_byte_if.ended page.put_byte_if.Reads.Learnt
+pub page-put_byte_if : OneAnswer page-contracts.put_byte_if.ended page.put_byte_if.Reads.Learnt
 page-put_byte_if κs handed answer other lasts others p q = given (agree_laid p q) (λ (place, bytes). (place, ap (λ b. (b, (tt, (tt, (tt, tt))))) bytes))
 
-pub page-put_byte : OneAnswer page.put_byte.ended page.put_byte.Reads.Learnt
+pub page-put_byte : OneAnswer page-contracts.put_byte.ended page.put_byte.Reads.Learnt
 page-put_byte κs handed answer other lasts others p q = given (agree_laid p q) (λ (place, bytes). (place, ap (λ b. (b, (tt, (tt, tt)))) bytes))
 
-pub page-put_number : OneAnswer page.put_number.ended page.put_number.Reads.Learnt
+pub page-put_number : OneAnswer page-contracts.put_number.ended page.put_number.Reads.Learnt
 page-put_number κs handed answer other lasts others p q = given (agree_laid p q) (λ (place, bytes). (place, ap (λ b. (b, (tt, (tt, (tt, tt))))) bytes))
 
-pub page-put_short_number : OneAnswer page.put_short_number.ended page.put_short_number.Reads.Learnt
+pub page-put_short_number : OneAnswer page-contracts.put_short_number.ended page.put_short_number.Reads.Learnt
 page-put_short_number κs handed answer other lasts others p q = given (agree_laid p q) (λ (place, bytes). (place, ap (λ b. (b, (tt, (tt, (tt, tt))))) bytes))
 
-pub page-put_bare_number : OneAnswer page.put_bare_number.ended page.put_bare_number.Reads.Learnt
+pub page-put_bare_number : OneAnswer page-contracts.put_bare_number.ended page.put_bare_number.Reads.Learnt
 page-put_bare_number κs handed answer other lasts others p q = given (agree_laid p q) (λ (place, bytes). (place, ap (λ b. (b, (tt, (tt, tt)))) bytes))
 
-pub page-put_short_text : OneAnswer page.put_short_text.ended page.put_short_text.Reads.Learnt
+pub page-put_short_text : OneAnswer page-contracts.put_short_text.ended page.put_short_text.Reads.Learnt
 page-put_short_text κs handed answer other lasts others p q = given (agree_laid p q) (λ (place, bytes). (place, ap (λ b. (b, (tt, (tt, tt)))) bytes))
 
-pub page-put_word : OneAnswer page.put_word.ended page.put_word.Reads.Learnt
+pub page-put_word : OneAnswer page-contracts.put_word.ended page.put_word.Reads.Learnt
 page-put_word κs handed answer other lasts others p q = given (agree_laid p q) (λ (place, bytes). (place, ap (λ b. (b, (tt, (tt, tt)))) bytes))
 
-pub page-put_hexadecimal : OneAnswer page.put_hexadecimal.ended page.put_hexadecimal.Reads.Learnt
+pub page-put_hexadecimal : OneAnswer page-contracts.put_hexadecimal.ended page.put_hexadecimal.Reads.Learnt
 page-put_hexadecimal κs handed answer other lasts others p q = given (agree_laid p q) (λ (place, bytes). (place, ap (λ b. (b, (tt, (tt, tt)))) bytes))
 
-pub page-word_of : OneAnswer page.word_of.ended page.word_of.Reads.Learnt
+pub page-word_of : OneAnswer page-contracts.word_of.ended page.word_of.Reads.Learnt
 page-word_of κs handed answer other lasts others p q = (agree p q, refl)
 
 -- ---- frames
 
-pub frames-call_size : OneAnswer frames.call_size.ended frames.call_size.Reads.Learnt
+pub frames-call_size : OneAnswer frames-contracts.call_size.ended frames.call_size.Reads.Learnt
 frames-call_size κs handed answer other lasts others p q = (agree p q, refl)

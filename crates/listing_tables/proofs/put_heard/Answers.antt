@@ -6,13 +6,13 @@ use Rattle.listener.specs.Answers.{told_of}
 use Rattle.listener.specs.declared.Answer.{Answer}
 use Rattle.listing_tables.specs.Tables.{answer_lines}
 use Rattle.listing_tables.proofs.Others.{untaken}
-use borrow.Author.Rules.{rules}
+use borrow.Enum.Refused.{opened}
 use Rattle.listing_tables.proofs.put_heard.Goals as goal
 
 pub returns-in_default : goal.returns-in_default
 returns-in_default c =
     let a = c.args in
-    poured_as ((untaken a.answer c.in_default.in_default-own.keys2).1 (picture_in a.memory.now) (marks_in a.memory.now)) c.put_refusal.ensures
+    poured_as ((untaken a.answer (opened c.in_default.in_default-own.keys2)).1 (picture_in a.memory.now) (marks_in a.memory.now)) c.put_refusal.ensures
 
 pub returns : goal.returns
 returns c =

@@ -1,15 +1,10 @@
 -- `put_picture`: after i turns the lines of the first i slots are put.
-use Prim.Native.Nat.{ℕ, ◌*◌, ◌-◌, ◌≤◌}
-use mathlib.Core.List.{List}
 use mathlib.Core.Path.{◌≡◌, refl, ap, ap₂, sym}
 use native.Mathlib.Omega.{arith}
-use lib.ListN.{length}
 use Rattle.kit.specs.Each.{each}
-use Rattle.page.specs.Pages.{Paged}
 use Rattle.page.proofs.Pages.{paged-none, paged_as, paged-most, paged-each}
-use Rattle.memory.specs.Memory.{picture_in, marks_in}
 use Rattle.listing_entries.specs.Entries.{entry_line}
-use Rattle.listing_tables.specs.Tables.{entry_at, picture_lines}
+use Rattle.listing_tables.specs.Tables.{picture_lines}
 use borrow.Author.Rules.{rules}
 use Rattle.listing_tables.proofs.put_picture.Invariants.{lines}
 use Rattle.listing_tables.proofs.put_picture.Goals as goal

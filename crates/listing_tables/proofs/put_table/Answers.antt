@@ -1,6 +1,5 @@
 -- `put_table`: a page of the line and the lines of the slots, copied as far as it is filled.
 use Rattle.page.proofs.Pages.{paged-then, paged-poured}
-use borrow.Author.Rules.{rules}
 use Rattle.listing_tables.proofs.put_table.Goals as goal
 
 pub returns : goal.returns

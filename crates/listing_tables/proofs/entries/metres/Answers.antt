@@ -2,7 +2,6 @@
 use mathlib.Core.Path.{refl}
 use native.Mathlib.Omega.{arith}
 use borrow.Author.Tests.{lt-ltb, le-ltb}
-use borrow.Author.Rules.{rules}
 use Rattle.listing_tables.proofs.entries.metres.Goals as goal
 
 pub returns-then-word-lt-NO_VALUE : goal.returns-then-word-lt-NO_VALUE

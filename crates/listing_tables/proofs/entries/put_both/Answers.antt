@@ -5,7 +5,6 @@ use Rattle.text.specs.Words.{blank}
 use Rattle.listing_words.specs.Words.{distance_text}
 use Rattle.listing_seconds.specs.Seconds.{second_word}
 use Rattle.page.proofs.Pages.{paged_as, paged-then}
-use borrow.Author.Rules.{rules}
 use Rattle.listing_tables.proofs.entries.put_both.Goals as goal
 
 pub returns : goal.returns

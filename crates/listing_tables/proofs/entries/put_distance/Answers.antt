@@ -5,7 +5,6 @@ use Rattle.text.specs.Words.{blank}
 use Rattle.listing_words.specs.Words.{number_then}
 use Rattle.page.proofs.Pages.{paged_as, paged-then, paged-most}
 use Rattle.listing_tables.proofs.Words.{distance_none, distance_signed}
-use borrow.Author.Rules.{rules}
 use Rattle.listing_tables.proofs.entries.put_distance.Goals as goal
 
 pub returns-then-word-eq-NO_VALUE : goal.returns-then-word-eq-NO_VALUE

@@ -2,7 +2,6 @@
 use mathlib.Core.Path.{ap, sym, ◌∙◌}
 use mathlib.Core.List.{[], ◌∷◌, ◌++◌}
 use native.Mathlib.Omega.{arith}
-use borrow.Author.Tests.{not-true, not-false}
 use Rattle.condition.specs.declared.slots.Coded.{Coded}
 use Rattle.text.specs.Words.{blank}
 use Rattle.listing_words.specs.Words.{distance_text}
@@ -11,7 +10,6 @@ use Rattle.listing_entries.specs.Entries.{entry_words}
 use Rattle.listing_entries.proofs.Entries.{entry-empty, entry_occupied}
 use Rattle.page.proofs.Pages.{paged-none, paged_as, paged-then, paged-most}
 use Rattle.listing_tables.proofs.Words.{numbers-then}
-use borrow.Author.Rules.{rules}
 use Rattle.listing_tables.proofs.entries.put_entry.Goals as goal
 
 pub returns-then-not-is_occupied : goal.returns-then-not-is_occupied

@@ -2,7 +2,6 @@
 use native.Mathlib.Omega.{arith}
 use Rattle.page.proofs.Pages.{paged_as, paged-most}
 use Rattle.listing_tables.proofs.Words.{limit_none, limit_some}
-use borrow.Author.Rules.{rules}
 use Rattle.listing_tables.proofs.entries.put_limit.Goals as goal
 
 pub returns-then-change-eq-NO_VALUE : goal.returns-then-change-eq-NO_VALUE

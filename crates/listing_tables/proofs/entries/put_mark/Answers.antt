@@ -4,7 +4,6 @@ use mathlib.Core.List.{[], ◌∷◌, ◌++◌}
 use native.Mathlib.Omega.{arith}
 use Rattle.listing_words.specs.Words.{line_feed, mark_word}
 use Rattle.page.proofs.Pages.{paged_as, paged-then, paged_tight, paged-most}
-use borrow.Author.Rules.{rules}
 use Rattle.listing_tables.proofs.entries.put_mark.Goals as goal
 
 pub returns-then-carried : goal.returns-then-carried

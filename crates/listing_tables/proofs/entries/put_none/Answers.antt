@@ -1,7 +1,6 @@
 -- `put_none`: the two bytes.
 use native.Mathlib.Omega.{arith}
 use Rattle.page.proofs.Pages.{paged_tight}
-use borrow.Author.Rules.{rules}
 use Rattle.listing_tables.proofs.entries.put_none.Goals as goal
 
 pub returns : goal.returns

@@ -3,7 +3,6 @@ use native.Mathlib.Omega.{arith}
 use Rattle.text.specs.Words.{blank}
 use Rattle.page.proofs.Packed.{byte_then}
 use Rattle.page.proofs.Pages.{paged-then, paged_tight}
-use borrow.Author.Rules.{rules}
 use Rattle.listing_tables.proofs.entries.put_numbers.Goals as goal
 
 pub returns : goal.returns

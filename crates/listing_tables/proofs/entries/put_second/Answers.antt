@@ -5,7 +5,6 @@ use native.Mathlib.Omega.{arith}
 use Rattle.text.specs.Words.{blank}
 use Rattle.listing_seconds.specs.Seconds.{second_word}
 use Rattle.page.proofs.Pages.{paged_as, paged-most}
-use borrow.Author.Rules.{rules}
 use Rattle.listing_tables.proofs.entries.put_second.Goals as goal
 
 pub returns-in-Empty : goal.returns-in-Empty

@@ -4,7 +4,6 @@ use Rattle.listing_seconds.specs.Seconds.{stroke}
 use Rattle.page.proofs.Packed.{byte_then}
 use Rattle.page.proofs.Pages.{paged_as, paged-then, paged-most, paged_tight}
 use Rattle.listing_tables.proofs.Words.{system_none, system_some}
-use borrow.Author.Rules.{rules}
 use Rattle.listing_tables.proofs.entries.put_system.Goals as goal
 
 pub returns-then-change-eq-NO_VALUE : goal.returns-then-change-eq-NO_VALUE

@@ -4,7 +4,6 @@ use Rattle.listing_lines.specs.Lines.{table_line}
 use Rattle.text.specs.Words.{blank}
 use Rattle.page.proofs.Packed.{byte_then}
 use Rattle.page.proofs.Pages.{paged-then, paged_tight}
-use borrow.Author.Rules.{rules}
 use Rattle.listing_tables.proofs.entries.put_table_line.Goals as goal
 
 pub returns : goal.returns

@@ -11,8 +11,7 @@ use Rattle.lister.specs.Pieces.{padded, keeping, take_of, piece_lines, MadeByPie
 use Rattle.lister.specs.declared.Lister.{Lister}
 use Rattle.lister.proofs.Kept.{state, made_kept, filled, filled-to, filled-whole, take_part, lines-part, take-one, lines-one}
 use borrow.Author.Rules.{rules}
-use Rattle.lister.proofs.bite.Statement.{statement}
-use Rattle.lister.proofs.bite.Tie as tie
+use Rattle.lister.proofs.bite.Goals as goal
 
 module _ {lister : Lister} (m : MadeByPieces lister) {piece after : List ℕ} {next : ℕ} (room : lister.kept + length piece ≤ 26) (p : Poured lister.tail lister.kept piece after next)
     {before out : List ℕ} {at to : ℕ} where
@@ -35,54 +34,13 @@ module _ {lister : Lister} (m : MadeByPieces lister) {piece after : List ℕ} {n
         poured_as (lines-part kept piece short) put,
       )
 
-slice-aggregate-put-words : tie.Need-slice-aggregate-put-words
-slice-aggregate-put-words c = search rules
+pub returns-then-kept-ge-LENGTH : goal.returns-then-kept-ge-LENGTH
+returns-then-kept-ge-LENGTH c =
+    let p = c.put_words-kept.ensures in
+    let said = c.hear_one.ensures in
+    whole c.requires.0 c.requires.1 p (search rules) said.0 said.1
 
-put-words-requires : tie.Need-put-words-requires
-put-words-requires c κs = search rules
-
-slice-aggregate-hear-one : tie.Need-slice-aggregate-hear-one
-slice-aggregate-hear-one c = search rules
-
-hear-one-requires : tie.Need-hear-one-requires
-hear-one-requires c κs = search rules
-
-same_length : tie.Need-same-length
-same_length c = search rules
-
-returns : tie.Need-returns
+pub returns : goal.returns
 returns c =
-    let start = c.before.before.before.before.before.before.before.before.before.before.before.before in
-    let p = c.before.before.before.before.before.before.before.put-words.ensures in
-    let said = c.before.before.hear-one.ensures in
-    whole start.requires.0 start.requires.1 p (search rules) said.0 said.1
-
-slice-aggregate-put-words-2 : tie.Need-slice-aggregate-put-words-2
-slice-aggregate-put-words-2 c = search rules
-
-put-words-requires-2 : tie.Need-put-words-requires-2
-put-words-requires-2 c κs = search rules
-
-same-length-2 : tie.Need-same-length-2
-same-length-2 c = search rules
-
-returns-2 : tie.Need-returns-2
-returns-2 c =
-    let start = c.before.before.before.before.before.before.before.before.before.before.before.before.before in
-    let p = c.before.before.before.before.before.before.before.before.put-words.ensures in
-    part start.requires.0 start.requires.1 p (search rules) c.before.before.before.put-words2.ensures
-
-pub bite-spec : {M : Type 1} → statement M
-bite-spec =
-    tie.close
-    (tie.spec
-    slice-aggregate-put-words
-    put-words-requires
-    slice-aggregate-hear-one
-    hear-one-requires
-    same_length
-    returns
-    slice-aggregate-put-words-2
-    put-words-requires-2
-    same-length-2
-    returns-2)
+    let p = c.put_words-kept.ensures in
+    part c.requires.0 c.requires.1 p (search rules) c.put_words-next.ensures
