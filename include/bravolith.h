@@ -3,7 +3,7 @@
  * the bytes that its definition gives, and nothing else. docs/FORMATS.md, installed as share/doc/bravolith/FORMATS.md, says byte by
  * byte what inputs and outputs are.
  *
- * Link libexports.a (rt staticlib exports), or the same library as it is installed, libbravolith.a (tools/install PREFIX). It is for
+ * Link libexports.a (tools/library), or the same library as it is installed, libbravolith.a (tools/install PREFIX). It is for
  * x86-64 Linux: ELF, the calling convention of System V, and no instruction beyond those that every x86-64 processor has. Of a C
  * library it takes memcpy, memmove and memset alone, so that glibc, musl or any other one will do; it allocates no memory, reads and
  * writes no file, and keeps no variable. It is tried with gcc and glibc. Any thread may call at any time.

@@ -114,6 +114,28 @@ def written():
         told(type(error), error, None)
 
 
+def crates():
+    """The crates that crates.txt lists, in its order."""
+    lines = [line.split("#")[0].split(":")[0].split() for line in open(os.path.join(ROOT, "crates.txt"))]
+    return [words[0] for words in lines if words]
+
+
+def files(*tops):
+    """The files below these folders, in order, without what rt, cargo and python made there."""
+    found = []
+    for top in tops:
+        for at, folders, names in os.walk(top):
+            folders[:] = [name for name in folders if name not in ("out", "target", "__pycache__")]
+            found += [os.path.join(at, name) for name in names]
+    return sorted(found)
+
+
+def program(crate):
+    """Where the program of a crate stands: where rt builds it, or in the folder that BRAVOLITH_BIN_DIR names."""
+    folder = os.environ.get("BRAVOLITH_BIN_DIR")
+    return os.path.abspath(os.path.join(folder, crate)) if folder else os.path.join(ROOT, "crates", crate, "out", crate)
+
+
 # ---- for the tools in bash: asked.py TOOL WORD.. prints the help where it is asked for, and nothing where the words are understood
 
 if __name__ == "__main__":

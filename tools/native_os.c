@@ -3,7 +3,6 @@
  * for measurements alone; the programs that are proved and tested are linked with the kit's.
  */
 #include <errno.h>
-#include <fcntl.h>
 #include <stddef.h>
 #include <stdint.h>
 #include <string.h>
@@ -18,8 +17,6 @@ __attribute__((constructor)) static void keep(int argc, char **argv)
     count = argc;
     words = argv;
 }
-
-int32_t rattle_open_to_read(const uint8_t *path) { return open((const char *)path, O_RDONLY | O_CLOEXEC); }
 
 int32_t rattle_errno(void) { return errno; }
 

@@ -1,7 +1,7 @@
 //! Finds the archive of the proved library and links it, or says in words what
 //! to run.
 //!
-//! The archive is `libexports.a`, as `rt staticlib exports` builds it, or
+//! The archive is `libexports.a`, as `tools/library` builds it, or
 //! `libbravolith.a`, as `tools/install PREFIX` installs it. The variable
 //! BRAVOLITH_ARCHIVE_DIR names the folder that has it. Where that is not set, it
 //! is looked for in `target/staticlib` of the repository, then where pkg-config
@@ -91,7 +91,7 @@ fn missing(named: bool, folders: &[PathBuf]) -> String {
         words += "which BRAVOLITH_ARCHIVE_DIR names.\n";
     }
     words += "Prove and build it in the Bravolith repository:\n  \
-              rt staticlib exports\n\
+              tools/library\n\
               or install it from there:\n  \
               tools/install PREFIX\n\
               and set BRAVOLITH_ARCHIVE_DIR to the whole path of the folder that has it:\n\

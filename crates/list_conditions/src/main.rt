@@ -1,5 +1,7 @@
 // Reads a recording of telegrams, one after another, and writes its listing to standard output. It is read in pieces, each what one read
 // gave, so that a recording may have any length and a table is shown when its last telegram has come.
+#![tactic(auto)]
+
 ghost use Rattle.std.specs.Prelude.{◌≡◌, ◌≤◌, cond, length};
 ghost use Rattle.kit.specs.Put.{Put, Poured};
 ghost use Rattle.outcomes.specs.Ends.{at_the_end};
@@ -11,11 +13,10 @@ ghost use Rattle.summary.specs.Tallies.{counted_piece};
 ghost use Rattle.summary.specs.Summaries.{summary_of};
 ghost use Rattle.listing_room.specs.Rooms.{piece_room, lines_room, header_room, end_room};
 
-use libc::{STDERR_FILENO, STDOUT_FILENO};
 use lister::{Listed, Lister};
 use outcomes::{Progress, State};
 use program::{Asked, Program};
-use streams::Source;
+use streams::{Opened, Output, Source};
 use summary::Tally;
 
 // The state after a piece, and whether its lines were written.
@@ -25,31 +26,31 @@ struct Shown {
     written: bool,
 }
 
-fn main() {
-    let asked = streams::asked(Program::ListConditions);
+fn main(rt: HostRuntime) {
+    let asked = streams::asked(&rt, Program::ListConditions);
     let task = asked.task;
     if program::is_work(task) {
-        work(asked);
+        work(&rt, asked);
     } else {
-        streams::answer(Program::ListConditions, asked);
+        streams::answer(&rt, Program::ListConditions, asked);
     }
 }
 
 // Opens the input and lists it.
-fn work(asked: Asked) {
+fn work(rt: &HostRuntime, asked: Asked) {
     let mut name = [0u8; 4096];
-    let source = streams::open(Program::ListConditions, asked, &mut name);
-    if source.descriptor < 0 {
+    let mut source = streams::open(rt, Program::ListConditions, asked, &mut name);
+    if matches!(source.opened, Opened::Nothing) {
         return;
     }
-    streams::say_awaiting(Program::ListConditions, source);
-    let progress = streams::progress_of(asked, source);
-    list(asked.summary, source, &name[..source.length], progress);
+    streams::say_awaiting(rt, Program::ListConditions, &source);
+    let progress = streams::progress_of(rt, asked, &mut source);
+    list(rt, asked.summary, &source, &name[..source.length], progress);
 }
 
 // Lists the input to its end, or to the first read or write that fails. What it had is counted only where a summary is asked for.
-fn list(summed: bool, source: Source, name: &[u8], begun: Progress) {
-    if !show_header() {
+fn list(rt: &HostRuntime, summed: bool, source: &Source, name: &[u8], begun: Progress) {
+    if !show_header(rt) {
         return;
     }
     let mut lister = Lister::begun();
@@ -57,25 +58,23 @@ fn list(summed: bool, source: Source, name: &[u8], begun: Progress) {
     let mut progress = begun;
     // one buffer for the lines of every piece, so that it is cleared once
     let mut out = [0u8; 262080];
-    let mut pieces: u64 = 0;
-    while pieces < u64::MAX {
-        pieces += 1;
+    for _ in 0..u64::MAX {
         let mut piece = [0u8; 10400];
-        let outcome = streams::read(Program::ListConditions, source, name, &mut piece);
+        let outcome = streams::read(rt, Program::ListConditions, source, name, &mut piece);
         let n = outcome.count;
         let state = outcome.state;
-        progress = streams::went_on(progress, n);
+        progress = streams::went_on(rt, progress, n);
         tally = count_piece(summed, tally, lister, &piece[..n]);
-        let shown = show_piece(lister, &piece[..n], &mut out);
+        let shown = show_piece(rt, lister, &piece[..n], &mut out);
         lister = shown.lister;
         if !shown.written {
             return;
         }
         if outcomes::is_over(state) {
-            streams::end_progress(progress);
-            if show_end(state, lister) {
+            streams::end_progress(rt, progress);
+            if show_end(rt, state, lister) {
                 if summed {
-                    show_summary(state, tally, lister);
+                    show_summary(rt, state, tally, lister);
                 }
             }
             return;
@@ -103,10 +102,10 @@ fn put_header(out: &mut [u8]) -> usize
 }
 
 // Writes the header, and answers whether it was written.
-fn show_header() -> bool {
+fn show_header(rt: &HostRuntime) -> bool {
     let mut out = [0u8; 16];
     let n = put_header(&mut out);
-    streams::write(Program::ListConditions, STDOUT_FILENO, &out[..n])
+    streams::write(rt, Program::ListConditions, Output::Standard, &out[..n])
 }
 
 // Puts the lines of one piece. It asks for the sizes for which it is proved that all of them have room (listing_room/proofs/Room.antt).
@@ -118,13 +117,13 @@ fn put_piece(lister: Lister, piece: &[u8], out: &mut [u8]) -> Listed
 }
 
 // Writes the lines of one piece.
-fn show_piece(lister: Lister, piece: &[u8], out: &mut [u8]) -> Shown
+fn show_piece(rt: &HostRuntime, lister: Lister, piece: &[u8], out: &mut [u8]) -> Shown
     requires { MadeByPieces lister × (length piece.now ≤ piece_room) × (length out.old ≡ lines_room) }
     ensures { result.lister ≡ take_of lister piece.now }
 {
     let listed = put_piece(lister, piece, out);
     let n = listed.at;
-    let written = streams::write(Program::ListConditions, STDOUT_FILENO, &out[..n]);
+    let written = streams::write(rt, Program::ListConditions, Output::Standard, &out[..n]);
     let next = listed.lister;
     Shown {
         lister: next,
@@ -145,12 +144,12 @@ fn put_end(state: State, lister: Lister, out: &mut [u8]) -> usize
 }
 
 // Writes it, and answers whether it was written.
-fn show_end(state: State, lister: Lister) -> bool
+fn show_end(rt: &HostRuntime, state: State, lister: Lister) -> bool
     requires { MadeByPieces lister }
 {
     let mut out = [0u8; 64];
     let n = put_end(state, lister, &mut out);
-    streams::write(Program::ListConditions, STDOUT_FILENO, &out[..n])
+    streams::write(rt, Program::ListConditions, Output::Standard, &out[..n])
 }
 
 // Puts the summary where the input has ended, all of it, since the buffer has the size for which that is proved; after a read that failed,
@@ -167,10 +166,10 @@ fn put_summary(state: State, tally: Tally, lister: Lister, out: &mut [u8]) -> us
 }
 
 // Writes it to error output.
-fn show_summary(state: State, tally: Tally, lister: Lister)
+fn show_summary(rt: &HostRuntime, state: State, tally: Tally, lister: Lister)
     requires { MadeByPieces lister × Countable tally }
 {
     let mut out = [0u8; 1536];
     let n = put_summary(state, tally, lister, &mut out);
-    streams::write(Program::ListConditions, STDERR_FILENO, &out[..n]);
+    streams::write(rt, Program::ListConditions, Output::Errors, &out[..n]);
 }

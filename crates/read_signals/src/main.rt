@@ -1,16 +1,17 @@
 // Reads calls and hands them to the record of signals that it owns. A call is a length in two bytes, high first, and so many bytes; the
 // length FFFFh, with nothing after it, is a call with no telegram. For each call a line goes to standard output.
+#![tactic(auto)]
+
 ghost use Rattle.std.specs.Prelude.{◌≡◌, length};
 ghost use Rattle.kit.specs.Put.{Poured};
 ghost use Rattle.outcomes.specs.Ends.{where_short};
 ghost use Rattle.signals.specs.Signals.{update_of};
 ghost use Rattle.signals_output.specs.Lines.{short_call_line};
 
-use libc::STDOUT_FILENO;
 use outcomes::{End, Progress};
 use program::{Asked, Program};
 use signals::{Signals, Updated};
-use streams::Source;
+use streams::{Opened, Output, Source};
 
 const NO_TELEGRAM: u16 = 0xFFFF;
 
@@ -30,46 +31,44 @@ struct Taken {
     written: bool,
 }
 
-fn main() {
-    let asked = streams::asked(Program::ReadSignals);
+fn main(rt: HostRuntime) {
+    let asked = streams::asked(&rt, Program::ReadSignals);
     let task = asked.task;
     if program::is_work(task) {
-        work(asked);
+        work(&rt, asked);
     } else {
-        streams::answer(Program::ReadSignals, asked);
+        streams::answer(&rt, Program::ReadSignals, asked);
     }
 }
 
 // Opens the input and reads its calls.
-fn work(asked: Asked) {
+fn work(rt: &HostRuntime, asked: Asked) {
     let mut name = [0u8; 4096];
-    let source = streams::open(Program::ReadSignals, asked, &mut name);
-    if source.descriptor < 0 {
+    let mut source = streams::open(rt, Program::ReadSignals, asked, &mut name);
+    if matches!(source.opened, Opened::Nothing) {
         return;
     }
-    streams::say_awaiting(Program::ReadSignals, source);
-    let progress = streams::progress_of(asked, source);
-    follow(source, &name[..source.length], progress);
+    streams::say_awaiting(rt, Program::ReadSignals, &source);
+    let progress = streams::progress_of(rt, asked, &mut source);
+    follow(rt, &source, &name[..source.length], progress);
 }
 
 // Keeps the record to the input's end, or to the first read or write that fails.
-fn follow(source: Source, name: &[u8], begun: Progress) {
+fn follow(rt: &HostRuntime, source: &Source, name: &[u8], begun: Progress) {
     let mut signals = Signals::fresh();
     let mut progress = begun;
-    let mut calls: u64 = 0;
-    while calls < u64::MAX {
-        calls += 1;
+    for _ in 0..u64::MAX {
         let mut bytes = [0u8; 65535];
-        let input = read_call(source, name, &mut bytes);
+        let input = read_call(rt, source, name, &mut bytes);
         if !input.more {
             let end = input.end;
-            streams::end_progress(progress);
-            show_end(end);
+            streams::end_progress(rt, progress);
+            show_end(rt, end);
             return;
         }
         let length = input.length as usize;
-        progress = streams::went_on(progress, length + 2);
-        let taken = take(signals, input.present, &bytes[..length]);
+        progress = streams::went_on(rt, progress, length + 2);
+        let taken = take(rt, signals, input.present, &bytes[..length]);
         signals = taken.signals;
         if !taken.written {
             return;
@@ -78,11 +77,11 @@ fn follow(source: Source, name: &[u8], begun: Progress) {
 }
 
 // Reads the length of a call, and then so many bytes.
-fn read_call(source: Source, name: &[u8], bytes: &mut [u8]) -> Input
+fn read_call(rt: &HostRuntime, source: &Source, name: &[u8], bytes: &mut [u8]) -> Input
     requires { length bytes.old ≡ 65535 }
 {
     let mut head = [0u8; 2];
-    let first = streams::read_full(Program::ReadSignals, source, name, &mut head);
+    let first = streams::read_full(rt, Program::ReadSignals, source, name, &mut head);
     let state = first.state;
     if outcomes::is_over(state) {
         return Input {
@@ -102,6 +101,7 @@ fn read_call(source: Source, name: &[u8], bytes: &mut [u8]) -> Input
         };
     }
     let rest = streams::read_full(
+        rt,
         Program::ReadSignals,
         source,
         name,
@@ -125,11 +125,11 @@ fn read_call(source: Source, name: &[u8], bytes: &mut [u8]) -> Input
 }
 
 // Hands one call to the record, which is lent for it, and shows the answer.
-fn take(signals: Signals, present: bool, telegram: &[u8]) -> Taken
+fn take(rt: &HostRuntime, signals: Signals, present: bool, telegram: &[u8]) -> Taken
     ensures { result.signals ≡ (update_of signals present telegram.now).signals }
 {
     let updated = signals_in_place::lend_and_update(signals, present, telegram);
-    let written = show_line(updated);
+    let written = show_line(rt, updated);
     let next = updated.signals;
     Taken {
         signals: next,
@@ -137,10 +137,10 @@ fn take(signals: Signals, present: bool, telegram: &[u8]) -> Taken
     }
 }
 
-fn show_line(updated: Updated) -> bool {
+fn show_line(rt: &HostRuntime, updated: Updated) -> bool {
     let mut line = [0u8; 256];
     let n = signals_output::put_line(updated, &mut line, 0);
-    streams::write(Program::ReadSignals, STDOUT_FILENO, &line[..n])
+    streams::write(rt, Program::ReadSignals, Output::Standard, &line[..n])
 }
 
 // Puts the line on a call that is not whole, where the input has ended inside one; after a read that failed, nothing.
@@ -153,8 +153,8 @@ fn put_end(end: End, line: &mut [u8]) -> usize
     0
 }
 
-fn show_end(end: End) {
+fn show_end(rt: &HostRuntime, end: End) {
     let mut line = [0u8; 11];
     let n = put_end(end, &mut line);
-    streams::write(Program::ReadSignals, STDOUT_FILENO, &line[..n]);
+    streams::write(rt, Program::ReadSignals, Output::Standard, &line[..n]);
 }

@@ -1,5 +1,7 @@
 // Reads lists of orders, each after its length in two bytes, high first, and hands them to a desk. For each accepted list the table goes to
 // standard output as five telegrams; for each refused one a line goes to error output.
+#![tactic(auto)]
+
 ghost use Rattle.std.specs.Prelude.{◌≡◌, length};
 ghost use Rattle.kit.specs.Put.{Poured};
 ghost use Rattle.outcomes.specs.Ends.{where_short};
@@ -7,10 +9,9 @@ ghost use Rattle.desk.specs.Desks.{base_rest, accept_of, Made};
 ghost use Rattle.desk_output.specs.Outputs.{short_list_line};
 
 use desk::Desk;
-use libc::{STDERR_FILENO, STDOUT_FILENO};
 use outcomes::{End, Progress};
 use program::{Asked, Program};
-use streams::Source;
+use streams::{Opened, Output, Source};
 use wire::Verdict;
 
 // What the input has next: a list of so many bytes, or none, and then how the input ended.
@@ -28,46 +29,44 @@ struct Taken {
     written: bool,
 }
 
-fn main() {
-    let asked = streams::asked(Program::RunDesk);
+fn main(rt: HostRuntime) {
+    let asked = streams::asked(&rt, Program::RunDesk);
     let task = asked.task;
     if program::is_work(task) {
-        work(asked);
+        work(&rt, asked);
     } else {
-        streams::answer(Program::RunDesk, asked);
+        streams::answer(&rt, Program::RunDesk, asked);
     }
 }
 
 // Opens the input and runs the desk on it.
-fn work(asked: Asked) {
+fn work(rt: &HostRuntime, asked: Asked) {
     let mut name = [0u8; 4096];
-    let source = streams::open(Program::RunDesk, asked, &mut name);
-    if source.descriptor < 0 {
+    let mut source = streams::open(rt, Program::RunDesk, asked, &mut name);
+    if matches!(source.opened, Opened::Nothing) {
         return;
     }
-    streams::say_awaiting(Program::RunDesk, source);
-    let progress = streams::progress_of(asked, source);
-    run(source, &name[..source.length], progress);
+    streams::say_awaiting(rt, Program::RunDesk, &source);
+    let progress = streams::progress_of(rt, asked, &mut source);
+    run(rt, &source, &name[..source.length], progress);
 }
 
 // Runs the desk to the input's end, or to the first read or write that fails.
-fn run(source: Source, name: &[u8], begun: Progress) {
+fn run(rt: &HostRuntime, source: &Source, name: &[u8], begun: Progress) {
     let mut desk = Desk::fresh();
     let mut progress = begun;
-    let mut lists: u64 = 0;
-    while lists < u64::MAX {
-        lists += 1;
+    for lists in 1..=u64::MAX {
         let mut bytes = [0u8; 65535];
-        let input = read_list(source, name, &mut bytes);
+        let input = read_list(rt, source, name, &mut bytes);
         if !input.more {
             let end = input.end;
-            streams::end_progress(progress);
-            show_end(end);
+            streams::end_progress(rt, progress);
+            show_end(rt, end);
             return;
         }
         let length = input.length as usize;
-        progress = streams::went_on(progress, length + 2);
-        let taken = take(desk, &bytes[..length], lists);
+        progress = streams::went_on(rt, progress, length + 2);
+        let taken = take(rt, desk, &bytes[..length], lists);
         desk = taken.desk;
         if !taken.written {
             return;
@@ -76,11 +75,11 @@ fn run(source: Source, name: &[u8], begun: Progress) {
 }
 
 // Reads the length of a list, two bytes, high first, and then so many bytes.
-fn read_list(source: Source, name: &[u8], bytes: &mut [u8]) -> Input
+fn read_list(rt: &HostRuntime, source: &Source, name: &[u8], bytes: &mut [u8]) -> Input
     requires { length bytes.old ≡ 65535 }
 {
     let mut head = [0u8; 2];
-    let first = streams::read_full(Program::RunDesk, source, name, &mut head);
+    let first = streams::read_full(rt, Program::RunDesk, source, name, &mut head);
     let state = first.state;
     if outcomes::is_over(state) {
         return Input {
@@ -91,6 +90,7 @@ fn read_list(source: Source, name: &[u8], bytes: &mut [u8]) -> Input
     }
     let length = wire::word(head[0], head[1]);
     let rest = streams::read_full(
+        rt,
         Program::RunDesk,
         source,
         name,
@@ -112,7 +112,7 @@ fn read_list(source: Source, name: &[u8], bytes: &mut [u8]) -> Input
 }
 
 // Hands one list to the desk and shows its answer.
-fn take(desk: Desk, list: &[u8], lists: u64) -> Taken
+fn take(rt: &HostRuntime, desk: Desk, list: &[u8], lists: u64) -> Taken
     requires { Made desk }
     ensures { result.desk ≡ (accept_of base_rest desk list.now).desk }
 {
@@ -120,8 +120,8 @@ fn take(desk: Desk, list: &[u8], lists: u64) -> Taken
     let verdict = answer.verdict;
     let next = answer.desk;
     let written = match verdict {
-        Verdict::Accepted => show_table(next),
-        Verdict::Refused(number) => show_refused(number, lists),
+        Verdict::Accepted => show_table(rt, next),
+        Verdict::Refused(number) => show_refused(rt, number, lists),
     };
     Taken {
         desk: next,
@@ -129,16 +129,16 @@ fn take(desk: Desk, list: &[u8], lists: u64) -> Taken
     }
 }
 
-fn show_table(desk: Desk) -> bool {
+fn show_table(rt: &HostRuntime, desk: Desk) -> bool {
     let mut out = [0u8; 130];
     desk_output::put_table(desk, &mut out, 0);
-    streams::write(Program::RunDesk, STDOUT_FILENO, &out)
+    streams::write(rt, Program::RunDesk, Output::Standard, &out)
 }
 
-fn show_refused(number: u8, lists: u64) -> bool {
+fn show_refused(rt: &HostRuntime, number: u8, lists: u64) -> bool {
     let mut line = [0u8; 64];
     let n = desk_output::put_refused(number, lists, &mut line, 0);
-    streams::write(Program::RunDesk, STDERR_FILENO, &line[..n])
+    streams::write(rt, Program::RunDesk, Output::Errors, &line[..n])
 }
 
 // Puts the line on a list that is not whole, where the input has ended inside one; after a read that failed, nothing.
@@ -151,8 +151,8 @@ fn put_end(end: End, line: &mut [u8]) -> usize
     0
 }
 
-fn show_end(end: End) {
+fn show_end(rt: &HostRuntime, end: End) {
     let mut line = [0u8; 11];
     let n = put_end(end, &mut line);
-    streams::write(Program::RunDesk, STDERR_FILENO, &line[..n]);
+    streams::write(rt, Program::RunDesk, Output::Errors, &line[..n]);
 }

@@ -1,46 +1,65 @@
 // The program's arguments.
-use crate::output::write;
+use crate::output::{Output, write};
 use crate::telling::tell;
-use libc::{STDERR_FILENO, STDOUT_FILENO};
 use program::{Argument, Asked, Doing, Program};
+use std::env::{Env, FillError};
+use std::io::Error;
 
 // What the arguments ask for, the program's own name left out.
-pub fn asked(program: Program) -> Asked {
-    let count = os::arg_count();
+pub fn asked(rt: &HostRuntime, program: Program) -> Asked {
     let mut asked = Asked::nothing();
-    let mut i: usize = 1;
-    while i < count {
-        asked = with_argument(program, asked, i);
-        i += 1;
+    for i in 1..usize::MAX {
+        match with_argument(rt, program, asked, i) {
+            Some(next) => asked = next,
+            None => break,
+        }
     }
     asked
 }
 
-// With one argument more. One that is too long for a path is told as one that could not be taken.
-fn with_argument(program: Program, asked: Asked, i: usize) -> Asked {
+// With one argument more, where there is one. One that is too long for a path is told as one that could not be taken.
+fn with_argument(rt: &HostRuntime, program: Program, asked: Asked, i: usize) -> Option<Asked> {
     let mut word = [0u8; 4096];
-    let n = os::arg(i, &mut word);
-    if os::errno() == 0 {
-        return asked.with(program, program::argument_of(&word[..n]), i);
+    match rt.arg(i, &mut word) {
+        Ok(n) => Some(asked.with(program, program::argument_of(&word[..n]), i)),
+        Err(FillError::TooLong) => Some(asked.with(program, Argument::Unknown, i)),
+        Err(FillError::NotPresent) => None,
     }
-    asked.with(program, Argument::Unknown, i)
 }
+
+// The system's numbers for an argument that is not there, and for a name that is too long.
+const NOT_THERE: i32 = 22;
+
+const TOO_LONG: i32 = 36;
 
 // Says what is asked for, where it is not the work: the help or the version on standard output, a line on error output on an argument that is
 // not understood.
-pub fn answer(program: Program, asked: Asked) {
-    let task = asked.task;
+pub fn answer(rt: &HostRuntime, program: Program, asked: Asked) {
     let mut word = [0u8; 4096];
-    let n = os::arg(asked.at, &mut word);
-    if os::errno() != 0 {
-        tell(program, Doing::TakingArgument, b"");
-        return;
+    match rt.arg(asked.at, &mut word) {
+        Ok(n) => say_answer(rt, program, asked, &word[..n]),
+        Err(error) => {
+            let reason = reason_of(error);
+            tell(rt, program, Doing::TakingArgument, b"", &reason);
+        }
     }
+}
+
+fn say_answer(rt: &HostRuntime, program: Program, asked: Asked, word: &[u8]) {
+    let task = asked.task;
     let mut out = [0u8; 4224];
-    let k = program::put_answer(program, task, &word[..n], &mut out, 0);
-    let mut descriptor = STDOUT_FILENO;
+    let k = program::put_answer(program, task, word, &mut out, 0);
+    let mut output = Output::Standard;
     if program::is_complaint(task) {
-        descriptor = STDERR_FILENO;
+        output = Output::Errors;
     }
-    write(program, descriptor, &out[..k]);
+    write(rt, program, output, &out[..k]);
+}
+
+// Why an argument could not be taken, as the system says it.
+fn reason_of(error: FillError) -> Error {
+    match error {
+        FillError::NotPresent => Error::from_raw_os_error(NOT_THERE),
+        FillError::TooLong => Error::from_raw_os_error(TOO_LONG),
+    }
 }

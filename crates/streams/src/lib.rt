@@ -1,5 +1,8 @@
-// The calls of C that all programs share: arguments, the input, reads and writes, and the line on a call that failed. What is read, and
-// whether a call fails, no contract can say; what follows from it is decided by `outcomes`, and what is said by `program`.
+// The calls of the system that all programs share: arguments, the input, reads and writes, and the line on a call that failed. What is read,
+// and whether a call fails, no contract can say; what follows from it is decided by `outcomes`, and what is said by `program`.
+// They take the runtime itself and no bound on it: under a bound the check counts what every function of that trait assumes of the system.
+#![tactic(auto)]
+
 mod arguments;
 mod input;
 mod output;
@@ -7,6 +10,6 @@ mod progress;
 mod telling;
 
 pub use arguments::{answer, asked};
-pub use input::{Source, open, read, read_full, say_awaiting};
-pub use output::write;
+pub use input::{Opened, Source, open, read, read_full, say_awaiting};
+pub use output::{Output, write};
 pub use progress::{end_progress, progress_of, went_on};

@@ -1,47 +1,65 @@
 // Standard output and error output.
 ghost use Rattle.io.specs.Counts.{IsPrefixLen};
 
-use crate::telling::{is_interrupted, tell};
-use libc::STDOUT_FILENO;
+use crate::telling::{Tried, is_interrupted, tell_tried};
 use outcomes::Moved;
 use program::{Doing, Program};
 
+// Which of the two is written to.
+#[derive(Clone, Copy)]
+pub enum Output {
+    Standard,
+    Errors,
+}
+
 // One write.
-fn write_once(descriptor: i32, bytes: &[u8]) -> Moved
-    ensures { IsPrefixLen result.count bytes.now }
+fn write_once(rt: &HostRuntime, output: Output, bytes: &[u8]) -> Tried
+    ensures { IsPrefixLen result.moved.count bytes.now }
 {
-    let answer = libc::write(descriptor, bytes);
-    let interrupted = is_interrupted();
-    let count = io::count(answer, bytes);
-    let state = outcomes::write_of(count, answer < 0, interrupted);
-    Moved { count, state }
+    let answer = match output {
+        Output::Standard => rt.stdout().write_some(bytes),
+        Output::Errors => rt.stderr().write_some(bytes),
+    };
+    match answer {
+        Ok(count) => Tried {
+            moved: Moved {
+                count,
+                state: outcomes::write_of(count, false, false),
+            },
+            reason: None,
+        },
+        Err(error) => Tried {
+            moved: Moved {
+                count: 0,
+                state: outcomes::write_of(0, true, is_interrupted(&error)),
+            },
+            reason: Some(error),
+        },
+    }
 }
 
 // Writes all of these bytes and answers true, or stops at the first write that fails, tells it, and answers false.
-pub fn write(program: Program, descriptor: i32, bytes: &[u8]) -> bool {
+pub fn write(rt: &HostRuntime, program: Program, output: Output, bytes: &[u8]) -> bool {
     let mut done: usize = 0;
-    let mut turns: u64 = 0;
-    while turns < u64::MAX {
-        turns += 1;
+    for _ in 0..u64::MAX {
         if done >= bytes.len() {
             return true;
         }
-        let outcome = write_once(descriptor, &bytes[done..]);
-        let state = outcome.state;
+        let tried = write_once(rt, output, &bytes[done..]);
+        let state = tried.moved.state;
         if outcomes::is_failed(state) {
-            tell_write(program, descriptor);
+            tell_write(rt, program, output, tried);
             return false;
         }
-        done += outcome.count;
+        done += tried.moved.count;
     }
     false
 }
 
 // Tells of a write that failed.
-fn tell_write(program: Program, descriptor: i32) {
-    if descriptor == STDOUT_FILENO {
-        tell(program, Doing::Writing, b"");
-    } else {
-        tell(program, Doing::Telling, b"");
+fn tell_write(rt: &HostRuntime, program: Program, output: Output, tried: Tried) {
+    match output {
+        Output::Standard => tell_tried(rt, program, Doing::Writing, b"", tried),
+        Output::Errors => tell_tried(rt, program, Doing::Telling, b"", tried),
     }
 }

@@ -1,15 +1,64 @@
 // A call that failed, told on error output.
-use libc::EINTR;
-use program::{Doing, Program};
+ghost use Rattle.std.specs.Prelude.{◌≤◌};
 
-// A line: the program, what it was doing, and the system's reason for the call just made.
-pub fn tell(program: Program, doing: Doing, name: &[u8]) {
-    let mut line = [0u8; 4224];
-    let n = program::put_doing(program, doing, name, &mut line, 0);
-    os::fail(&line[..n]);
+use outcomes::Moved;
+use program::{Doing, Program};
+use std::io::{Error, ErrorKind, Write};
+
+// What a read or a write came to, and the system's reason where it failed.
+#[derive(Clone, Copy)]
+pub struct Tried {
+    pub moved: Moved,
+    pub reason: Option<Error>,
 }
 
-// Whether the call just made failed because a signal came first.
-pub fn is_interrupted() -> bool {
-    os::errno() == EINTR
+// Tells of a read or a write that failed. The system has no reason for a write that took nothing.
+pub fn tell_tried(rt: &HostRuntime, program: Program, doing: Doing, name: &[u8], tried: Tried) {
+    let reason = match tried.reason {
+        Some(reason) => reason,
+        None => Error::from(ErrorKind::WriteZero),
+    };
+    tell(rt, program, doing, name, &reason);
+}
+
+// A line: the program, what it was doing, and the system's reason.
+pub fn tell(rt: &HostRuntime, program: Program, doing: Doing, name: &[u8], reason: &Error) {
+    let mut line = [0u8; 4224];
+    let n = program::put_doing(program, doing, name, &mut line, 0);
+    let mut text = [0u8; 128];
+    let k = put_reason(reason, &mut text);
+    say(rt, &line[..n]);
+    say(rt, b": ");
+    say(rt, without_number(&text[..k]));
+    say(rt, b"\n");
+}
+
+// Where error output cannot be written, nothing can be told.
+pub fn say(rt: &HostRuntime, bytes: &[u8]) {
+    let _ = Print::write_all(&rt.stderr(), bytes);
+}
+
+// Puts the text of an error, and answers how many bytes it has.
+fn put_reason(reason: &Error, text: &mut [u8; 128]) -> usize
+    ensures { result ≤ 128 }
+{
+    let mut rest: &mut [u8] = text;
+    let _ = write!(rest, "{reason}");
+    128usize.saturating_sub(rest.len())
+}
+
+// The text of a reason, which has the number of an error of the system behind it, in parentheses; without the number.
+fn without_number(text: &[u8]) -> &[u8] {
+    match std::str::from_utf8(text) {
+        Ok(words) => match words.split_once(" (os error ") {
+            Some((reason, _)) => reason.as_bytes(),
+            None => text,
+        },
+        Err(_) => text,
+    }
+}
+
+// Whether a call failed because a signal came first.
+pub fn is_interrupted(error: &Error) -> bool {
+    error.kind() == ErrorKind::Interrupted
 }

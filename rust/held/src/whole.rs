@@ -38,7 +38,9 @@ pub const READ_SIGNALS: Program = Program {
 
 /// Where programs are, and where inputs and outputs are put.
 pub struct Folders {
-    pub proved: PathBuf,
+    /// The folder that has the proved programs, or None for where rt builds
+    /// each, below crates/.
+    pub proved: Option<PathBuf>,
     pub plain: PathBuf,
     pub scratch: PathBuf,
 }
@@ -54,7 +56,12 @@ pub fn measure(
     let file = folders.scratch.join(program.name).with_extension("in");
     fs::create_dir_all(&folders.scratch).map_err(|error| format!("{error}"))?;
     fs::write(&file, input).map_err(|error| format!("{}: {error}", file.display()))?;
-    let proved = folders.proved.join(program.name);
+    let proved = match &folders.proved {
+        Some(folder) => folder.join(program.name),
+        None => ["crates", program.name, "out", program.name]
+            .iter()
+            .collect(),
+    };
     let plain = folders.plain.join(program.name);
     let output = expected(Some(&program.output), input);
     let errors = expected(program.errors.as_ref(), input);

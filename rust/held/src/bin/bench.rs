@@ -4,8 +4,9 @@
 //! `bench [--times N]` runs the two in turn N times and shows the best time of
 //! each: first the functions of the library from memory, on inputs of three
 //! sizes, and then the whole programs from a file. It is run from the
-//! repository's root. The proved programs are those of `target/bin`, or of the
-//! folder that BRAVOLITH_BIN_DIR names; the plain ones are beside `bench`.
+//! repository's root. The proved programs are those that rt built,
+//! `crates/NAME/out/NAME`, or those of the folder that BRAVOLITH_BIN_DIR names;
+//! the plain ones are beside `bench`.
 
 use held::hold::{Function, LIST, RUN, SIGNALS};
 use held::measured::Measured;
@@ -120,9 +121,8 @@ fn whole_programs(folders: &Folders, times: u32) -> bool {
 }
 
 fn folders() -> Option<Folders> {
-    let proved = env::var_os("BRAVOLITH_BIN_DIR").map_or("target/bin".into(), PathBuf::from);
     Some(Folders {
-        proved,
+        proved: env::var_os("BRAVOLITH_BIN_DIR").map(PathBuf::from),
         plain: env::current_exe().ok()?.parent()?.into(),
         scratch: "target/bench".into(),
     })
