@@ -1,7 +1,6 @@
 -- `bravolith_word`: the number of the word that the text is.
 use mathlib.Core.Path.{ap, ◌∙◌}
 use Rattle.listing_reader.specs.Fixed.{code_of}
-use borrow.Author.Rules.{rules}
 use Rattle.exports.proofs.bravolith_word.Goals as goal
 
 pub returns : goal.returns

@@ -1,7 +1,6 @@
 -- `number_of`: the number of the verdict that the `match` found.
 use mathlib.Core.Path.{sym, ap}
 use Rattle.wire.specs.Verdicts.{number_of}
-use borrow.Author.Rules.{rules}
 use Rattle.exports.proofs.number_of.Goals as goal
 
 pub returns-in-Accepted : goal.returns-in-Accepted
