@@ -5,8 +5,7 @@ use mathlib.Core.Path.{◌≡◌, sym, ap, ap₂, ◌∙◌, subst, subst⁻¹}
 use mathlib.Core.List.{List}
 use lib.ListN.{length, length-drop}
 use native.Mathlib.Omega.{arith}
-use borrow.Author.Rules.{rules}
-use borrow.Author.Rules.{part_to_end}
+use borrow.Author.Rules.{rules, part_to_end}
 use Rattle.frames.specs.Frames.{no_bare}
 use Rattle.frames.proofs.Splitting.{size_bounds}
 use Rattle.frames.proofs.Pouring.{pouring_start, pouring_more, pouring_end, pouring_last, pouring_as, pouring_room}

@@ -2,9 +2,8 @@
 use Prim.Native.Nat.{ℕ}
 use mathlib.Core.Path.{sym, ap, ap₂}
 use mathlib.Core.List.{List}
-use borrow.Author.Rules.{part_to_end}
+use borrow.Author.Rules.{part_to_end, rules}
 use native.Mathlib.Omega.{arith}
-use borrow.Author.Rules.{rules}
 use Rattle.frames.specs.Frames.{no_bare}
 use Rattle.frames.proofs.Splitting.{size_bounds}
 use Rattle.frames.proofs.Pouring.{pouring_start, pouring_more, pouring_end, pouring_last, pouring_as}
