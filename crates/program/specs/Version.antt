@@ -4,4 +4,4 @@ use Rattle.std.specs.Prelude.{ℕ, List}
 use Rattle.kit.specs.Text.{ascii}
 
 abbrev pub version_text : List ℕ
-version_text = ascii " 1.1.0 (Bravolith track conditions box), proved with rattle-kit-5b logic 064da1ca440f63e7\n"
+version_text = ascii " 1.1.0 (Bravolith track conditions box), proved with rattle-kit-13f logic dac8208d650f15bf\n"

@@ -27,7 +27,7 @@ fn put_version(program: Program, out: &mut [u8], at: usize) -> usize
     text::put_words(
         out,
         next,
-        b" 1.1.0 (Bravolith track conditions box), proved with rattle-kit-5b logic 064da1ca440f63e7\n",
+        b" 1.1.0 (Bravolith track conditions box), proved with rattle-kit-13f logic dac8208d650f15bf\n",
     )
 }
 
