@@ -6,7 +6,6 @@ use Rattle.wire.proofs.Answers.{number-verdict}
 use Rattle.telegram.specs.Telegrams.{write_refusal, write_verdict, written}
 use Rattle.desk.specs.Desks.{packet_of}
 use Rattle.desk.specs.declared.Desk.{Desk}
-use borrow.Author.Rules.{rules}
 use Rattle.exports.proofs.bravolith_write.Goals as goal
 
 pub returns : goal.returns

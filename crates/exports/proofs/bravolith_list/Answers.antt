@@ -1,6 +1,0 @@
--- `bravolith_list`: what `list` puts.
-use borrow.Author.Rules.{rules}
-use Rattle.exports.proofs.bravolith_list.Goals as goal
-
-pub returns : goal.returns
-returns c = c.list.ensures

@@ -1,6 +1,0 @@
--- `bravolith_signals`: what `read` puts.
-use borrow.Author.Rules.{rules}
-use Rattle.exports.proofs.bravolith_signals.Goals as goal
-
-pub returns : goal.returns
-returns c = c.read.ensures
