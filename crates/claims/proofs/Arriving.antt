@@ -201,7 +201,7 @@ module _ (calls : List (List ℕ)) (list : List ℕ) (unrefused : list_refusal (
             permitted-here j inlist (number_in after (slot j new)) (omega (arith, is, after-others))
             (subst (λ n. is_permitted resting (turned j) n ≡ true) (sym (is ∙ after-others)) find.permitted);
         last = last_at j;
-        last-given = last_at_lem j inlist;
+        last_given = last_at_lem j inlist;
         first = λ other low high between permitted.
             given
             (between-before (last_at j) find.others other (last-small j inlist) find.few low (omega arith)

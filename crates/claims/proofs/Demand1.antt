@@ -50,8 +50,8 @@ lists =
 telegrams : Telegrams
 telegrams =
     record {
-      read-defined = λ κs handed answer other lasts others p q. (agree p q, refl);
-      read-refused = λ κs (bytes, _) answer lasts p. ruled (read_rows bytes.now) answer.verdict (subst⁻¹ (λ a. RefusedBy (read_rows bytes.now) Refused a.verdict) p (reading_refused bytes.now));
+      read_defined = λ κs handed answer other lasts others p q. (agree p q, refl);
+      read_refused = λ κs (bytes, _) answer lasts p. ruled (read_rows bytes.now) answer.verdict (subst⁻¹ (λ a. RefusedBy (read_rows bytes.now) Refused a.verdict) p (reading_refused bytes.now));
       defined = λ κs handed answer other lasts others p q. (hearing_apart answer other (agree p q), refl);
       refused = λ κs (listener, (telegram, _)) heard lasts p.
           subst⁻¹ (λ (h : Hearing). RefusedBy (hear_rows listener telegram.now) refused_as h.told) p (listener-promises.refused_when carries listener telegram.now);
@@ -66,8 +66,8 @@ telegrams =
 memory_kept : (number : ℕ) → (number ≡ 15 → ⊥) → (memory telegram : List ℕ) → memory_after carries (refused_as number) memory telegram ≡ memory
 memory_kept number other memory telegram = rw (ne_eqb number 15 other) refl
 
-telegrams-lent : TelegramsLent
-telegrams-lent =
+telegrams_lent : TelegramsLent
+telegrams_lent =
     record {
       defined = λ κs handed answer other lasts others p q. given (heard_once p q) (λ (same, bytes). (same, ap (λ b. (b, (tt, tt))) bytes));
       refused = λ κs (memory, (telegram, _)) answer lasts p.
@@ -111,8 +111,8 @@ train =
           subst⁻¹ (λ (u : Updating). (number : ℕ) → u.noted ≡ refusal_under number → u.signals ≡ missed_by signals) p (call_missed signals telegram.now present);
     }
 
-train-lent : TrainTelegramsLent
-train-lent =
+train_lent : TrainTelegramsLent
+train_lent =
     record {
       defined = λ M 𝓤 𝓛 mem run κs handed ghost answer other lasts others.
           both_facts 𝓤 _ _ _ (λ p q. (noted-apart answer other (agree p.0 q.0), ap (λ after. (after, (tt, (tt, tt)))) (agree p.1 q.1)));
@@ -137,4 +137,4 @@ buffers =
     }
 
 pub demand1 : Demand1
-demand1 = record { lists = lists; telegrams = telegrams; telegrams-lent = telegrams-lent; train = train; train-lent = train-lent; buffers = buffers }
+demand1 = record { lists = lists; telegrams = telegrams; telegrams_lent = telegrams_lent; train = train; train_lent = train_lent; buffers = buffers }

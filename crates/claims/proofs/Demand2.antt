@@ -57,7 +57,7 @@ written_codes desk packet buffer made accepted =
     (record {
       long = length-bytes t;
       packet = packet-on t high;
-      step = step-on t (packet_sendable (made-sound made) packet low high).step-below;
+      step = step-on t (packet_sendable (made-sound made) packet low high).step_below;
       places = coded-on t;
     }))
 
@@ -90,7 +90,7 @@ coded =
       distances = λ κs (word, _) distance lasts p. subst⁻¹ (λ d. word < 0x10000 → InRange d × (distance_word d ≡ word)) p (word-said word);
       signals = λ κs (signals, (present, (telegram, _))) updated lasts p.
           subst⁻¹ (λ (u : Updating). u.noted ≡ acceptance → Shows u.signals.states telegram.now) p (call_shows signals telegram.now present);
-      signals-lent = λ M 𝓤 𝓛 mem run κs (held, (present, (telegram, _))) ghost answer lasts.
+      signals_lent = λ M 𝓤 𝓛 mem run κs (held, (present, (telegram, _))) ghost answer lasts.
           fact_mono 𝓤 _ _ (λ p accepted. subst⁻¹ (λ (s : Signals). Shows s.states telegram.now) p.1 (call_shows held.now telegram.now present (sym p.0 ∙ accepted)));
     }
 
@@ -108,14 +108,14 @@ written-again : (bytes buffer : List ℕ) → Bytes bytes → (read_of bytes).ve
 written-again bytes buffer fits accepted long i b below =
     let t = (read_of bytes).telegram in
     let sendable = accepted_sendable bytes fits accepted in
-    ap (λ l. bit b (get_or l i 0)) (packet_fills t buffer sendable.packet-from sendable.packet-to long ∙ ap bytes_of (accepted-means bytes accepted))
+    ap (λ l. bit b (get_or l i 0)) (packet_fills t buffer sendable.packet_from sendable.packet_to long ∙ ap bytes_of (accepted-means bytes accepted))
     ∙ write_again bytes fits ((reading_accepted bytes).0 accepted) i b below
 
 read_back : ReadBack
 unfolding packet_of
 read_back =
     record {
-      each-packet = λ κs (desk, (packet, (buffer, _))) verdict lasts p made accepted κs' (bytes, _) reading lasts' q same.
+      each_packet = λ κs (desk, (packet, (buffer, _))) verdict lasts p made accepted κs' (bytes, _) reading lasts' q same.
           let back = q ∙ (ap read_of (same ∙ p.1) ∙ read-written desk packet buffer.now made (sym p.0 ∙ ruling_apart verdict Accepted accepted)) in
           (ap (λ (r : Reading). ruling_of r.verdict) back, ap (λ (r : Reading). r.telegram) back);
       table = λ κs (desk, _) table lasts p i below. (slot-carried (table_of desk) i below).1 ∙ ap (λ t. table_slot t i) (sym p);
@@ -131,10 +131,10 @@ reader : TheSignalReader
 unfolding record_after
 reader =
     record {
-      fresh_signals_lem = λ κs handed signals lasts p. p;
+      signals_begin = λ κs handed signals lasts p. p;
       updates = λ earlier κs (signals, (present, (telegram, _))) updated lasts p before.
           ap (λ (u : Updating). u.signals) p ∙ ap (λ (s : Signals). (update_of s present telegram.now).signals) before;
-      updates-lent = λ earlier M 𝓤 𝓛 mem run κs (held, (present, (telegram, _))) ghost answer lasts.
+      updates_lent = λ earlier M 𝓤 𝓛 mem run κs (held, (present, (telegram, _))) ghost answer lasts.
           fact_mono 𝓤 _ _ (λ p before. p.1 ∙ ap (λ (s : Signals). (update_of s present telegram.now).signals) before);
     }
 
@@ -143,7 +143,7 @@ listener : TheListener
 unfolding heard_all
 listener =
     record {
-      fresh_listener_lem = λ κs handed listener lasts p. p;
+      listener_begins = λ κs handed listener lasts p. p;
       hears = λ earlier κs (listener, (telegram, _)) heard lasts p before.
           ap (λ (h : Hearing). h.listener) p ∙ ap (λ (l : Listener). (hear_of carries l (read_of telegram.now)).listener) before;
     }

@@ -22,15 +22,15 @@ functions : TheFunctions
 unfolding packet_of
 functions =
     record {
-      fresh_desk_lem = λ κs handed desk lasts p. p;
+      desk_begins = λ κs handed desk lasts p. p;
       accepts = λ κs handed answer lasts p. p;
       made = calls_made;
       writes = λ κs (desk, (packet, (buffer, _))) verdict lasts p accepted. p.1 ∙ accepted-written (packet_of desk packet) buffer.now (sym p.0 ∙ ruling_apart verdict Accepted accepted);
-      writes-five = λ κs (desk, (packet, (buffer, _))) verdict lasts p low high long. ap ruling_of (p.0 ∙ packet-accepted (packet_of desk packet) buffer.now low high long);
-      fresh_listener_lem = λ κs handed listener lasts p. p;
+      writes_five = λ κs (desk, (packet, (buffer, _))) verdict lasts p low high long. ap ruling_of (p.0 ∙ packet-accepted (packet_of desk packet) buffer.now low high long);
+      listener_begins = λ κs handed listener lasts p. p;
       hears = λ κs handed heard lasts p. p;
-      fresh-memory = zeros-fresh;
-      hears-lent = λ κs handed answer lasts p. (ap (λ (h : Hearing). h.told) p.meant, ap (λ (h : Hearing). h.listener) p.meant);
+      fresh_memory = zeros-fresh;
+      hears_lent = λ κs handed answer lasts p. (ap (λ (h : Hearing). h.told) p.meant, ap (λ (h : Hearing). h.listener) p.meant);
     }
 
 -- the fleet's bytes are read back

@@ -141,10 +141,10 @@ module _ (rest reach : ℕ) {Message : Type 0} (binding : Binding Message) (call
         on (eqb m n)
         (λ same.
         let e : m ≡ n = eqb-true m n same in
-        rw (set_same hand (n % steps) (g.own-step ∙ ap (λ k. k % steps) e)) (subst (λ k. Gathered (T k) (k % steps) (got r k) hand) e g))
+        rw (set_same hand (n % steps) (g.own_step ∙ ap (λ k. k % steps) e)) (subst (λ k. Gathered (T k) (k % steps) (got r k) hand) e g))
         (λ other.
         let less : m < n = omega (arith, there n after, eqb-false m n other) in
-        rw (set_other hand (n % steps) (λ same. steps_apart m n less (omega (arith, near n)) (sym g.own-step ∙ same)))
+        rw (set_other hand (n % steps) (λ same. steps_apart m n less (omega (arith, near n)) (sym g.own_step ∙ same)))
         (gathered_none (T n) (n % steps) (got r n) (λ k small. heard-above n m r (first_packet + k) below less)))
 
     -- heard before: it is in the set in hand, and nothing changes
@@ -227,13 +227,13 @@ module _ (rest reach : ℕ) {Message : Type 0} (binding : Binding Message) (call
         table_is = gathered-table gathered twenty (whole_is ∙ whole)
 
         answer-is : told_of_table l with_it ≡ taken_as (n % steps) (count_of (T n)) (true_gap rest reach binding calls (wholes r) n)
-        answer-is = rw (gathered.own-step, table_is, gap_is l v.shown) refl
+        answer-is = rw (gathered.own_step, table_is, gap_is l v.shown) refl
 
         shown-taken : Shown (n ∷ wholes r) (taken_by reach l with_it)
         shown-taken = record {
           picture = taken-picture reach l with_it ∙ table_is;
-          last = taken-last reach l with_it ∙ ap Step gathered.own-step;
-          marks = taken-marks reach l with_it ∙ rw (gathered.own-step, table_is, gap_is l v.shown, v.shown.picture) refl;
+          last = taken-last reach l with_it ∙ ap Step gathered.own_step;
+          marks = taken-marks reach l with_it ∙ rw (gathered.own_step, table_is, gap_is l v.shown, v.shown.picture) refl;
         }
 
         hand-taken : InHand (sent n p ∷ r) (taken_by reach l with_it).hand

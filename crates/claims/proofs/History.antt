@@ -21,7 +21,7 @@ use Rattle.order_list.specs.Lists.{stands, order_count, listed_at}
 use Rattle.order_list.proofs.Listed.{listed-there, listed_when}
 use Rattle.places.specs.Places.{place_at}
 use Rattle.orders.specs.Orders.{list_refusal}
-use Rattle.desk.specs.Desks.{base_rest, accept_of, Made, made-fresh, called}
+use Rattle.desk.specs.Desks.{base_rest, accept_of, Made, made_fresh, called}
 use Rattle.desk.proofs.Runs.{desk_run, AllAccepted, Stood, InNewest}
 use Rattle.desk.specs.Steps.{step_of}
 use Rattle.desk.specs.declared.Desk.{Desk}
@@ -38,7 +38,7 @@ use Rattle.claims.specs.Calls.{Present, desk_after, accepted, steps_made, up_to,
 -- R-26: a desk of any calls was made by them
 pub calls_made : (calls : List (List ℕ)) → Made (desk_after base_rest calls)
 unfolding desk_after
-calls_made [] = made-fresh
+calls_made [] = made_fresh
 calls_made (list ∷ calls) = called (calls_made calls) list
 
 -- ---- present in a list, and the search that the definitions make

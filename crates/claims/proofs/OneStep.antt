@@ -105,8 +105,8 @@ module _ (calls : List (List ℕ)) (list : List ℕ) (unrefused : list_refusal (
       (λ s. ((some, small, s.order ∙ same), s.number, s.kind))
 
   -- D-11
-  one-first : steps_made eight calls ≡ 0 → 1 ≤ order_count list → (i : ℕ) × HasSlot after (named 0) i × (number_in after i ≡ 1)
-  one-first unstepped some =
+  one_first : steps_made eight calls ≡ 0 → 1 ≤ order_count list → (i : ℕ) × HasSlot after (named 0) i × (number_in after i ≡ 1)
+  one_first unstepped some =
       let given-one = new-order calls list unrefused 0 (omega arith, λ (i, (one, small, same)). omega (arith, vacant i)) in
       let slot = given-one.slot in (
         slot,
@@ -116,7 +116,7 @@ module _ (calls : List (List ℕ)) (list : List ℕ) (unrefused : list_refusal (
             (λ e.
             absurd
             (given-one.first 1 (omega arith) (omega arith)
-            (inl (omega (arith, first-last before list after given-one.last-given ∙ last-zero), omega (arith, given-one.range.0, eqb-false (number_in after slot) 1 e))) (no_slot, no_rest))),
+            (inl (omega (arith, first-last before list after given-one.last_given ∙ last-zero), omega (arith, given-one.range.0, eqb-false (number_in after slot) 1 e))) (no_slot, no_rest))),
       )
     where
       none : lists ≡ []
@@ -178,9 +178,9 @@ module _ (calls : List (List ℕ)) (list : List ℕ) (unrefused : list_refusal (
       (subst (λ (l : List (List ℕ)). AllAccepted eight eight (list ∷ l)) it.joins (unrefused, good)) it.many i
       (subst (λ (l : List (List ℕ)). number_in (desk_run eight eight (list ∷ l)) i ≡ 1) it.joins (ap (λ (desk : Desk). number_in desk i) (sym is-run) ∙ one)))
 
-  gets-one : (f : ℕ) → EndedIn calls f 1 → steps_made eight calls + 1 ≡ f + 8 → before.last ≡ 255 → (j : ℕ) → OneNew before list j
+  gets_one : (f : ℕ) → EndedIn calls f 1 → steps_made eight calls + 1 ≡ f + 8 → before.last ≡ 255 → (j : ℕ) → OneNew before list j
       → (i : ℕ) × HasSlot after (named j) i × (number_in after i ≡ 1)
-  gets-one f ended now last j new =
+  gets_one f ended now last j new =
       given (ending_of lists 1 7 ((ended-exactly calls f 7 1 (omega arith)).0 ended))
       (λ it.
       given
@@ -229,9 +229,9 @@ module _ (calls : List (List ℕ)) (list : List ℕ) (unrefused : list_refusal (
             record {
               new = new-order calls list unrefused;
               last = last-after calls list unrefused;
-              one-first = one-first;
+              one_first = one_first;
               comes_back = comes_back;
             };
         rests = rests;
-        p5 = record { passed_over = passed_over; gets-one = gets-one };
+        p5 = record { passed_over = passed_over; gets_one = gets_one };
       }

@@ -40,7 +40,7 @@ use Rattle.claims.proofs.OneStep.{fresh-says, one-step}
 -- R-26: the calls of a fresh desk
 made_calls : {desk : Desk} → Made desk → (calls : List (List ℕ)) × (desk ≡ desk_after eight calls)
 unfolding desk_after
-made_calls Made.made-fresh = ([], refl)
+made_calls Made.made_fresh = ([], refl)
 made_calls (called {desk} m list) = given (made_calls m) (λ (calls, e). (list ∷ calls, ap (λ (d : Desk). (accept_of eight d list).desk) e))
 
 fresh-after : fresh_with eight ≡ desk_after eight []
@@ -86,14 +86,14 @@ module _ (calls : List (List ℕ)) where
       (rests-kept calls (accepted eight calls) refl number p)
 
   -- D-14
-  few-rest : (numbers : List ℕ) → ((i k : ℕ) → i < length numbers → k < length numbers → get_or numbers i 0 ≡ get_or numbers k 0 → i ≡ k)
+  few_rest : (numbers : List ℕ) → ((i k : ℕ) → i < length numbers → k < length numbers → get_or numbers i 0 ≡ get_or numbers k 0 → i ≡ k)
       → ((i : ℕ) → i < length numbers → NumberRests calls (get_or numbers i 0)) → length numbers ≤ 160
-  few-rest numbers different rest_all =
+  few_rest numbers different rest_all =
       on (ltb 160 (length numbers))
       (λ e.
       given
       (pigeonhole (λ i. get_or numbers i 0) (length numbers) different (map (λ (x : Ended). x.number) desk.ended)
-      (omega (arith, length-map desk.ended (λ (x : Ended). x.number), (promises.few-rest kept).0, ltb-true 160 (length numbers) e)))
+      (omega (arith, length-map desk.ended (λ (x : Ended). x.number), (promises.few_rest kept).0, ltb-true 160 (length numbers) e)))
       (λ (i, small, out).
       let number = get_or numbers i 0 in
       absurd
@@ -103,8 +103,8 @@ module _ (calls : List (List ℕ)) where
       (λ e. ltb-false 160 (length numbers) e)
 
   -- D-15
-  one-permitted : (number : ℕ) × (1 ≤ number) × (number ≤ 255) × ((i : ℕ) → number_in desk i ≡ number → ⊥) × (NumberRests calls number → ⊥)
-  one-permitted =
+  one_permitted : (number : ℕ) × (1 ≤ number) × (number ≤ 255) × ((i : ℕ) → number_in desk i ≡ number → ⊥) × (NumberRests calls number → ⊥)
+  one_permitted =
       let test = is_resting eight desk.step desk.ended in
       let number = next_number test desk.places desk.last in
       let range = promises.found-range kept in
@@ -156,8 +156,8 @@ step =
       steps_so = λ κs (desk, (list, _)) answer lasts p calls same accepts-it. steps-one calls desk list.now answer p same (ruling_apart answer.verdict passed accepts-it);
       determined = λ calls list one other. alike calls (desk_after eight calls) list one other (made-sound (calls_made calls)).below;
       eight_tables = λ calls f number ended m i late soon. eight_tables calls f number ended m i late (omega arith);
-      few-rest = λ calls numbers different rest_all. omega (arith, few-rest calls numbers different rest_all);
-      one-permitted = one-permitted;
+      few_rest = λ calls numbers different rest_all. omega (arith, few_rest calls numbers different rest_all);
+      one_permitted = one_permitted;
       empty = λ κs (desk, (list, _)) answer lasts p m none.
           subst (λ (a : Answer). (ruling_of a.verdict ≡ ruled_accepted) × ((i : ℕ) → place_at a.desk.places i ≡ free_place)) (sym (p ∙ ap (accept_of eight desk) none))
           (ap ruling_of (promises.empty-accepted m), empties m);

@@ -121,7 +121,7 @@ module _ (calls : List (List ℕ)) (before : Desk) (list : List ℕ) where
             (λ f. omega (arith, ltb-false this.slot that.slot e, ltb-false that.slot this.slot f)))
 
         last : this.last ≡ that.last
-        last = last-same one other first second j agree this.last-given that.last-given
+        last = last-same one other first second j agree this.last_given that.last_given
 
         clashes : Between that.last (number_in one this.slot) (number_in other that.slot) ⊎ Between that.last (number_in other that.slot) (number_in one this.slot) → ⊥
         clashes (inl b) = no_sooner one other first second j agree new b

@@ -53,8 +53,8 @@ pub record Lists : Type 0 where
 
 pub record Telegrams : Type 0 where
   -- M-1b, M-1d, R-06, R-10 to R-14, R-20: reading
-  pub read-defined : OneAnswer read-contract.ended read.Reads.Learnt
-  pub read-refused : OfRead (λ bytes reading. RefusedBy (read_rows bytes) ruled_refused (ruling_of reading.verdict))
+  pub read_defined : OneAnswer read-contract.ended read.Reads.Learnt
+  pub read_refused : OfRead (λ bytes reading. RefusedBy (read_rows bytes) ruled_refused (ruling_of reading.verdict))
   -- M-1b, M-1d, R-06, R-10 to R-15, R-20, R-21: hearing
   pub defined : OneAnswer hear-contract.ended hear.Reads.Learnt
   pub refused : OfHear (λ listener telegram heard. RefusedBy (hear_rows listener telegram) refused_as (told_of heard.answer))
@@ -109,7 +109,7 @@ pub record Buffers : Type 0 where
 pub record Demand1 : Type 2 where
   pub lists : Lists
   pub telegrams : Telegrams
-  pub telegrams-lent : TelegramsLent
+  pub telegrams_lent : TelegramsLent
   pub train : TrainTelegrams
-  pub train-lent : TrainTelegramsLent
+  pub train_lent : TrainTelegramsLent
   pub buffers : Buffers

@@ -48,13 +48,13 @@ pub record AsDocument01Says : Type 2 where
   pub distances : OfDistance (λ word distance. word < 0x10000 → InRange distance × (distance_word distance ≡ word))
   -- M-2c: each signal has the state whose code stands in its own bits; S-01: of the record that is lent, too
   pub signals : OfUpdate (λ signals present telegram updated. noted_of updated.answer ≡ acceptance → Shows updated.signals.states telegram)
-  pub signals-lent : OfUpdateLent (λ signals present telegram answer after. noted_of answer ≡ acceptance → Shows after.states telegram)
+  pub signals_lent : OfUpdateLent (λ signals present telegram answer after. noted_of answer ≡ acceptance → Shows after.states telegram)
 
 -- ---- "Reading a written table gives that table."
 
 pub record ReadBack : Type 0 where
   -- M-2d: what a desk wrote is read as it was, in each of the five packets
-  pub each-packet : OfWrite (λ desk packet buffer verdict after. Made desk → ruling_of verdict ≡ ruled_accepted
+  pub each_packet : OfWrite (λ desk packet buffer verdict after. Made desk → ruling_of verdict ≡ ruled_accepted
       → OfRead (λ bytes reading. bytes ≡ after → (ruling_of reading.verdict ≡ ruled_accepted) × (reading.telegram ≡ packet_of desk packet)))
   -- T-04: and they carry the table: slot i is place i % 4 of packet 3 + i / 4
   pub table : OfTable (λ desk table. (i : ℕ) → i < 20 → slot_on (packet_of desk (3 + i / 4)) (i % 4) ≡ table_slot table i)
@@ -77,14 +77,14 @@ record_after ((present, telegram) ∷ earlier) = (update_of (record_after earlie
 -- C-07: it is the public functions that make that record: a fresh one is what the maker gives, and a call leaves the next of the one
 -- that it found, whether the record is handed over or lent
 pub record TheSignalReader : Type 2 where
-  pub fresh_signals_lem : OfFreshSignals (λ signals. signals ≡ record_after [])
+  pub signals_begin : OfFreshSignals (λ signals. signals ≡ record_after [])
   pub updates : (earlier : List Call) → OfUpdate (λ signals present telegram updated. signals ≡ record_after earlier → updated.signals ≡ record_after ((present, telegram) ∷ earlier))
-  pub updates-lent : (earlier : List Call) → OfUpdateLent (λ signals present telegram answer after. signals ≡ record_after earlier → after ≡ record_after ((present, telegram) ∷ earlier))
+  pub updates_lent : (earlier : List Call) → OfUpdateLent (λ signals present telegram answer after. signals ≡ record_after earlier → after ≡ record_after ((present, telegram) ∷ earlier))
 
 -- R-26, M-1b: what a fresh listener has become after these telegrams, of any bytes, the newest first, is `heard_all`. It, too, is what the
 -- public functions make.
 pub record TheListener : Type 0 where
-  pub fresh_listener_lem : OfFreshListener (λ listener. listener ≡ heard_all carries [])
+  pub listener_begins : OfFreshListener (λ listener. listener ≡ heard_all carries [])
   pub hears : (earlier : List (List ℕ)) → OfHear (λ listener telegram heard. listener ≡ heard_all carries earlier → heard.listener ≡ heard_all carries (telegram ∷ earlier))
 
 pub record Valid : Type 0 where

@@ -91,19 +91,19 @@ module _ (calls : List (List ℕ)) (heard : List (Item (List ℕ))) where
 -- C-08: the desk, the writer and the listener of this page are the public functions: by its contract each answers so, and a fresh end is
 -- what its maker gives
 pub record TheFunctions : Type 0 where
-  pub fresh_desk_lem : OfFreshDesk (λ desk. desk ≡ fresh_with eight)
+  pub desk_begins : OfFreshDesk (λ desk. desk ≡ fresh_with eight)
   pub accepts : OfAccept (λ desk list answer. answer ≡ accept_of eight desk list)
   -- R-26: what `accept` requires of a desk is so of the desk of any calls
   pub made : (calls : List (List ℕ)) → Made (desk_after eight calls)
   -- M-2a: what the buffer held before does not matter: an accepted call leaves the bytes of the telegram, and these alone
   pub writes : OfWrite (λ desk packet buffer verdict after. ruling_of verdict ≡ ruled_accepted → after ≡ fleet_binding.write (packet_of desk packet))
   -- R-09, R-10: each of the five packets is accepted into a buffer of 26 bytes
-  pub writes-five : OfWrite (λ desk packet buffer verdict after. 3 ≤ packet → packet ≤ 7 → length buffer ≡ 26 → ruling_of verdict ≡ ruled_accepted)
-  pub fresh_listener_lem : OfFreshListener (λ listener. listener ≡ fresh_listener)
+  pub writes_five : OfWrite (λ desk packet buffer verdict after. 3 ≤ packet → packet ≤ 7 → length buffer ≡ 26 → ruling_of verdict ≡ ruled_accepted)
+  pub listener_begins : OfFreshListener (λ listener. listener ≡ fresh_listener)
   pub hears : OfHear (λ listener telegram heard. hearing_of heard ≡ hear_of carries listener (fleet_binding.read telegram))
   -- W-04: and so it is where the listener stands in memory that is lent; 310 zeros are a fresh one's
-  pub fresh-memory : listener_in (replicate 310 0) ≡ fresh_listener
-  pub hears-lent : OfHearIn (λ memory telegram answer after.
+  pub fresh_memory : listener_in (replicate 310 0) ≡ fresh_listener
+  pub hears_lent : OfHearIn (λ memory telegram answer after.
       let next = hear_of carries (listener_in memory) (fleet_binding.read telegram) in
       (told_of answer ≡ next.told) × (listener_in after ≡ next.listener))
 

@@ -45,16 +45,16 @@ use Rattle.desk_writer.proofs.table_of as table-call
 use Rattle.desk_writer.specs.contracts.table_of as table-call-contract
 use Rattle.desk_writer.proofs.write as write
 use Rattle.desk_writer.specs.contracts.write as write-contract
-use Rattle.desk.proofs.Desk.fresh as fresh_desk_lem
-use Rattle.desk.specs.contracts.Desk.fresh as fresh_desk_lem-contract
-use Rattle.listener.proofs.Listener.fresh as fresh_listener_lem
-use Rattle.listener.specs.contracts.Listener.fresh as fresh_listener_lem-contract
+use Rattle.desk.proofs.Desk.fresh as fresh-desk
+use Rattle.desk.specs.contracts.Desk.fresh as fresh-desk-contract
+use Rattle.listener.proofs.Listener.fresh as fresh-listener
+use Rattle.listener.specs.contracts.Listener.fresh as fresh-listener-contract
 use Rattle.listener.proofs.Listener.hear as hear
 use Rattle.listener.specs.contracts.Listener.hear as hear-contract
 use Rattle.listener.proofs.hear_in as hear-in
 use Rattle.listener.specs.contracts.hear_in as hear-in-contract
-use Rattle.signals.proofs.Signals.fresh as fresh_signals_lem
-use Rattle.signals.specs.contracts.Signals.fresh as fresh_signals_lem-contract
+use Rattle.signals.proofs.Signals.fresh as fresh-signals
+use Rattle.signals.specs.contracts.Signals.fresh as fresh-signals-contract
 use Rattle.signals.proofs.Signals.update as update
 use Rattle.signals.specs.contracts.Signals.update as update-contract
 use Rattle.signals_in_place.specs.contracts.update as update-lent
@@ -73,7 +73,7 @@ OfWriteTelegram Such = Promised write-telegram-contract.ended write-telegram.Rea
 
 -- `Desk::fresh()`
 abbrev pub OfFreshDesk : (Desk → Type 0) → Type 0
-OfFreshDesk Such = Promised fresh_desk_lem-contract.ended fresh_desk_lem.Reads.Learnt (λ κs _ desk lasts. Such desk)
+OfFreshDesk Such = Promised fresh-desk-contract.ended fresh-desk.Reads.Learnt (λ κs _ desk lasts. Such desk)
 
 -- `Desk::accept(desk, list)`
 abbrev pub OfAccept : (Desk → List ℕ → Answer → Type 0) → Type 0
@@ -89,7 +89,7 @@ OfWrite Such = Promised write-contract.ended write.Reads.Learnt (λ κs (desk, (
 
 -- `Listener::fresh()`
 abbrev pub OfFreshListener : (Listener → Type 0) → Type 0
-OfFreshListener Such = Promised fresh_listener_lem-contract.ended fresh_listener_lem.Reads.Learnt (λ κs _ listener lasts. Such listener)
+OfFreshListener Such = Promised fresh-listener-contract.ended fresh-listener.Reads.Learnt (λ κs _ listener lasts. Such listener)
 
 -- `Listener::hear(listener, telegram)`
 abbrev pub OfHear : (Listener → List ℕ → Heard → Type 0) → Type 0
@@ -101,7 +101,7 @@ OfHearIn Such = Promised hear-in-contract.ended hear-in.Reads.Learnt (λ κs (me
 
 -- `Signals::fresh()`
 abbrev pub OfFreshSignals : (Signals → Type 0) → Type 0
-OfFreshSignals Such = Promised fresh_signals_lem-contract.ended fresh_signals_lem.Reads.Learnt (λ κs _ signals lasts. Such signals)
+OfFreshSignals Such = Promised fresh-signals-contract.ended fresh-signals.Reads.Learnt (λ κs _ signals lasts. Such signals)
 
 -- `Signals::update(signals, present, telegram)`
 abbrev pub OfUpdate : (Signals → Bool → List ℕ → Updated → Type 0) → Type 0

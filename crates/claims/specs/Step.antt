@@ -122,7 +122,7 @@ pub record NewOrder (calls : List (List ℕ)) (before : Desk) (list : List ℕ) 
   pub range : (1 ≤ number_in after slot) × (number_in after slot ≤ 255)
   pub permitted : PermittedAtTurn calls before list after j (number_in after slot)
   pub last : ℕ
-  pub last-given : LastGiven before list after j last
+  pub last_given : LastGiven before list after j last
   pub first : (number : ℕ) → 1 ≤ number → number ≤ 255 → Between last number (number_in after slot) → PermittedAtTurn calls before list after j number → ⊥
 
 pub record OrdersArrive (calls : List (List ℕ)) (before : Desk) (list : List ℕ) (after : Desk) : Type 0 where
@@ -131,7 +131,7 @@ pub record OrdersArrive (calls : List (List ℕ)) (before : Desk) (list : List �
   -- D-09: and the next step goes on from the last number that this one gave
   pub last : LastGiven before list after (order_count list) after.last
   -- D-11: where no step was made before
-  pub one-first : steps_made eight calls ≡ 0 → 1 ≤ order_count list → (i : ℕ) × HasSlot after (order_at list 0).number i × (number_in after i ≡ 1)
+  pub one_first : steps_made eight calls ≡ 0 → 1 ≤ order_count list → (i : ℕ) × HasSlot after (order_at list 0).number i × (number_in after i ≡ 1)
   -- D-16: "An order that ends and comes back is new.": so is every order that is absent from the list of the step before this one
   pub comes_back : (j : ℕ) → j < order_count list → (Present (list_in eight calls (steps_made eight calls)) (order_at list j).number → ⊥) → IsNew before list j
 
@@ -146,7 +146,7 @@ pub record P5ForEveryStep (calls : List (List ℕ)) (before : Desk) (list : List
   -- this step is f+7
   pub passed_over : (f : ℕ) → EndedIn calls f 1 → steps_made eight calls + 1 ≡ f + 7 → (i : ℕ) → number_in after i ≡ 1 → ⊥
   -- this step is f+8
-  pub gets-one : (f : ℕ) → EndedIn calls f 1 → steps_made eight calls + 1 ≡ f + 8 → before.last ≡ 255 → (j : ℕ) → OneNew before list j
+  pub gets_one : (f : ℕ) → EndedIn calls f 1 → steps_made eight calls + 1 ≡ f + 8 → before.last ≡ 255 → (j : ℕ) → OneNew before list j
       → (i : ℕ) × HasSlot after (order_at list j).number i × (number_in after i ≡ 1)
 
 -- ---- one step: an accepted list, after these calls of a fresh desk, the newest first
@@ -187,12 +187,12 @@ pub record TheStep : Type 0 where
   pub eight_tables : (calls : List (List ℕ)) (f number : ℕ) → EndedIn calls f number
       → (m i : ℕ) → f ≤ m → m < f + 8 → m ≤ steps_made eight calls → number_in (desk_of eight calls m) i ≡ number → ⊥
   -- "At most 160 numbers rest at once" (D-14): of numbers that rest, all different, there are no more
-  pub few-rest : (calls : List (List ℕ)) (numbers : List ℕ)
+  pub few_rest : (calls : List (List ℕ)) (numbers : List ℕ)
       → ((i k : ℕ) → i < length numbers → k < length numbers → get_or numbers i 0 ≡ get_or numbers k 0 → i ≡ k)
       → ((i : ℕ) → i < length numbers → NumberRests calls (get_or numbers i 0))
       → length numbers ≤ 160
   -- "hence a permitted one always exists" (D-15); that each new order finds one is `NewOrder`
-  pub one-permitted : (calls : List (List ℕ))
+  pub one_permitted : (calls : List (List ℕ))
       → (number : ℕ) × (1 ≤ number) × (number ≤ 255) × ((i : ℕ) → number_in (desk_after eight calls) i ≡ number → ⊥) × (NumberRests calls number → ⊥)
   -- "An empty list is accepted and ends everything." (D-17)
   pub empty : OfAccept (λ desk list answer. Made desk → list ≡ [] → (ruling_of answer.verdict ≡ ruled_accepted) × ((i : ℕ) → place_at answer.desk.places i ≡ free_place))

@@ -20,7 +20,8 @@ use Rattle.places.specs.Places.{free_place, place_at, lowest_free, is_live}
 use Rattle.places.specs.declared.Place.{Place}
 use Rattle.places.proofs.Live.{free-there}
 use Rattle.numbers.specs.Numbers.{next_number}
-use Rattle.numbers.proofs.Search.{FirstPermitted, search_found, number-range}
+use Rattle.numbers.proofs.Search.{FirstPermitted}
+use Rattle.numbers.proofs.Permitted.{search_found, number-range}
 use Rattle.arriving.specs.Arriving.{seated, seated_all}
 use Rattle.arriving.specs.declared.Seats.{Seats}
 use Rattle.arriving.proofs.Seated.{seated-live, seated-new, new_place}

@@ -10,7 +10,7 @@ use Rattle.wire.proofs.Answers.{verdict-accepted, verdict-refused}
 use Rattle.wire.specs.declared.verdicts.Verdict.TheVariants.{Accepted as accepted, Refused}
 use Rattle.orders.specs.Orders.{list_refusal}
 use Rattle.desk.specs.declared.Desk.{Desk}
-use Rattle.desk.specs.Desks.{base_rest, accept_of, Made, made-fresh, called}
+use Rattle.desk.specs.Desks.{base_rest, accept_of, Made, made_fresh, called}
 use Rattle.desk.proofs.Runs.{desk_run, AllAccepted}
 use Rattle.desk.specs.Steps.{step_of}
 use Rattle.desk.proofs.Stepping.{Sound}
@@ -30,7 +30,7 @@ module _ (figure : ℕ) (desk : Desk) (list : List ℕ) where
 -- the accepted lists of a desk that was made
 pub made-run : {desk : Desk} → Made desk → (h : List (List ℕ)) × AllAccepted base_rest base_rest h × (desk ≡ desk_run base_rest base_rest h)
 unfolding desk_run
-made-run made-fresh = ([], tt, refl)
+made-run made_fresh = ([], tt, refl)
 made-run (called {desk} m list) = go (made-run m)
   where
     go : (h : List (List ℕ)) × AllAccepted base_rest base_rest h × (desk ≡ desk_run base_rest base_rest h)

@@ -32,7 +32,7 @@ use Rattle.resting.specs.Rests.{is_resting}
 use Rattle.numbers.specs.Numbers.{is_permitted, next_number, number_after}
 use Rattle.resting.specs.declared.Ended.{Ended}
 use Rattle.resting.proofs.Rested.{covers-resting}
-use Rattle.numbers.proofs.Search.{number-permitted, number-range as search_range}
+use Rattle.numbers.proofs.Permitted.{number-permitted, number-range as search_range}
 use Rattle.desk.proofs.Tracing.{at, rested}
 use Rattle.desk.proofs.Turns.{passed_over, given-again}
 use Rattle.desk.proofs.Making.{accepts, refuses, made-sound}
@@ -65,12 +65,12 @@ module _ {desk : Desk} (made : Made desk) where
   numbers_differ = (made-sound made).orderly.apart
 
   -- D-14: each number that rests is one of 160
-  pub few-rest : (length desk.ended ≡ 160)
+  pub few_rest : (length desk.ended ≡ 160)
       × ((number : ℕ) → is_resting base_rest desk.step desk.ended number ≡ true → member number (map (λ (e : Ended). e.number) desk.ended) ≡ true)
-  few-rest = ((made-sound made).kept, covers-resting base_rest desk.step desk.ended)
+  few_rest = ((made-sound made).kept, covers-resting base_rest desk.step desk.ended)
 
   few : length (map (λ (e : Ended). e.number) desk.ended) ≤ 220
-  few = omega (arith, length-map desk.ended (λ (e : Ended). e.number), few-rest.0)
+  few = omega (arith, length-map desk.ended (λ (e : Ended). e.number), few_rest.0)
 
   abbrev pub found : ℕ
   found = next_number (is_resting base_rest desk.step desk.ended) desk.places desk.last
@@ -78,12 +78,12 @@ module _ {desk : Desk} (made : Made desk) where
   -- D-15: so the search for the next number ends at a permitted one, from 1 to 255
   pub number-found : is_permitted (is_resting base_rest desk.step desk.ended) desk.places found ≡ true
   number-found =
-      number-permitted (is_resting base_rest desk.step desk.ended) (map (λ (e : Ended). e.number) desk.ended) few-rest.1 few desk.places
+      number-permitted (is_resting base_rest desk.step desk.ended) (map (λ (e : Ended). e.number) desk.ended) few_rest.1 few desk.places
       (made-sound made).orderly.twenty desk.last
 
   pub found-range : (1 ≤ found) × (found ≤ 255)
   found-range =
-      search_range (is_resting base_rest desk.step desk.ended) (map (λ (e : Ended). e.number) desk.ended) few-rest.1 few desk.places
+      search_range (is_resting base_rest desk.step desk.ended) (map (λ (e : Ended). e.number) desk.ended) few_rest.1 few desk.places
       (made-sound made).orderly.twenty desk.last
 
   -- M-2d: each packet that it writes is read back
@@ -130,24 +130,24 @@ module _ {desk : Desk} (made : Made desk) where
 
 -- ---- over several steps, of the accepted lists, the newest first
 
-abbrev desk_after_lem : List (List ℕ) → Desk
-desk_after_lem lists = desk_run base_rest base_rest lists
+abbrev desk_then : List (List ℕ) → Desk
+desk_then lists = desk_run base_rest base_rest lists
 
 -- D-12, D-13: eight tables in a row go without the number of an order that ended: that of the step in which it did, and seven more
 pub eight_tables : (later earlier : List (List ℕ)) (ending : List ℕ) (i j : ℕ) → Accepted-run base_rest base_rest (later ++ (ending ∷ earlier)) → length later ≤ 7
-    → 1 ≤ (at (desk_after_lem earlier) i).order → stands ending (at (desk_after_lem earlier) i).order ≡ false
-    → (at (desk_after_lem (later ++ (ending ∷ earlier))) j).slot.number ≡ (at (desk_after_lem earlier) i).slot.number → ⊥
+    → 1 ≤ (at (desk_then earlier) i).order → stands ending (at (desk_then earlier) i).order ≡ false
+    → (at (desk_then (later ++ (ending ∷ earlier))) j).slot.number ≡ (at (desk_then earlier) i).slot.number → ⊥
 eight_tables later earlier ending i j accepted few = rested base_rest base_rest (omega arith) (omega arith) later earlier ending i j accepted (omega arith)
 
 -- P5 for every f: an order with number 1 ended in step f, and later a list comes in which one order is new
-module _ (earlier : List (List ℕ)) (ending : List ℕ) (i : ℕ) (live : 1 ≤ (at (desk_after_lem earlier) i).order) (one : (at (desk_after_lem earlier) i).slot.number ≡ 1)
-    (ended : stands ending (at (desk_after_lem earlier) i).order ≡ false) (between : List (List ℕ)) (list : List ℕ)
+module _ (earlier : List (List ℕ)) (ending : List ℕ) (i : ℕ) (live : 1 ≤ (at (desk_then earlier) i).order) (one : (at (desk_then earlier) i).slot.number ≡ 1)
+    (ended : stands ending (at (desk_then earlier) i).order ≡ false) (between : List (List ℕ)) (list : List ℕ)
     (accepted : Accepted-run base_rest base_rest (list ∷ (between ++ (ending ∷ earlier)))) where
   abbrev before : Desk
-  before = desk_after_lem (between ++ (ending ∷ earlier))
+  before = desk_then (between ++ (ending ∷ earlier))
 
   abbrev with_it : Desk
-  with_it = desk_after_lem (list ∷ (between ++ (ending ∷ earlier)))
+  with_it = desk_then (list ∷ (between ++ (ending ∷ earlier)))
 
   -- if it comes in step f + 7, number 1 is passed over
   pub p5-passed_over : length between ≡ 6 → (k : ℕ) → (at with_it k).slot.number ≡ 1 → ⊥
@@ -158,6 +158,6 @@ module _ (earlier : List (List ℕ)) (ending : List ℕ) (i : ℕ) (live : 1 ≤
   pub p5-given : length between ≡ 7 → before.last ≡ 255 → (j : ℕ) → OneNotLive before.places list j
       → (k : ℕ) × ((at with_it k).order ≡ (order_at list j).number) × ((at with_it k).slot.number ≡ 1)
   p5-given eight last j new =
-      let turn : number_after before.last 0 ≡ (at (desk_after_lem earlier) i).slot.number = ap (λ n. number_after n 0) last ∙ sym one in
+      let turn : number_after before.last 0 ≡ (at (desk_then earlier) i).slot.number = ap (λ n. number_after n 0) last ∙ sym one in
       given (given-again base_rest base_rest (omega arith) (omega arith) earlier ending i live ended between list accepted (omega arith) turn j new)
       (λ (l, number, order). (lowest_free (map (kept_place list) before.places), order, number ∙ one))

@@ -30,7 +30,7 @@ use Rattle.places.specs.declared.Place.{Place}
 use Rattle.order_list.proofs.Listed.{listed-there, listed_when}
 use Rattle.places.proofs.Live.{live-there, live-none, live_when, free-there, free-none}
 use Rattle.numbers.specs.Numbers.{next_number}
-use Rattle.numbers.proofs.Search.{number-range, number-idle, number-rested}
+use Rattle.numbers.proofs.Permitted.{number-range, number-idle, number-rested}
 use Rattle.leaving.specs.Leaving.{body_in}
 use Rattle.arriving.specs.Arriving.{seated, seated_all}
 use Rattle.arriving.specs.declared.Seats.{Seats}

@@ -173,8 +173,8 @@ module _ (rest rows : ℕ) (enough : rest ≤ rows) (few : rows ≤ 11)
     f : Fair before.places list
     f = fair before.places list accepted.0
 
-    abbrev kept-now : List Place
-    kept-now = map (kept_place list) before.places
+    abbrev kept_now : List Place
+    kept_now = map (kept_place list) before.places
 
     rests-no_more : resting number ≡ false
     unfolding desk_run step_of
@@ -185,33 +185,33 @@ module _ (rest rows : ℕ) (enough : rest ≤ rows) (few : rows ≤ 11)
         (λ (k, young, ago). absurd (not-again (list ∷ between) k accepted (omega arith) (omega arith) ago)))
         (λ e. e)
 
-    not-kept : has_number kept-now number ≡ false
+    not-kept : has_number kept_now number ≡ false
     not-kept =
-        on (has_number kept-now number)
-        (λ e. given (number-some kept-now number e) (λ (k, small, same). absurd (go k (case s.orderly f k) same)))
+        on (has_number kept_now number)
+        (λ e. given (number-some kept_now number e) (λ (k, small, same). absurd (go k (case s.orderly f k) same)))
         (λ e. e)
       where
-        go : (k : ℕ) → Stayed s.orderly f k (place_at kept-now k) ⊎ (place_at kept-now k ≡ free_place) → (place_at kept-now k).slot.number ≡ number → ⊥
+        go : (k : ℕ) → Stayed s.orderly f k (place_at kept_now k) ⊎ (place_at kept_now k ≡ free_place) → (place_at kept_now k).slot.number ≡ number → ⊥
         go k (inl t) same = rested rest rows enough few between h ending i k accepted.1 (omega arith) was ended (sym t.number ∙ same)
         go k (inr z) same = omega (arith, positive, rw z at same)
 
-    gets : next_number resting kept-now before.last ≡ number
+    gets : next_number resting kept_now before.last ≡ number
     gets =
-        number-first resting kept-now before.last 0 (omega arith)
-        (subst (λ n. is_permitted resting kept-now n ≡ true) (sym in_turn) (rw (not-kept, rests-no_more) refl)) (λ k p. absurd (omega arith))
+        number-first resting kept_now before.last 0 (omega arith)
+        (subst (λ n. is_permitted resting kept_now n ≡ true) (sym in_turn) (rw (not-kept, rests-no_more) refl)) (λ k p. absurd (omega arith))
         ∙ in_turn
 
     -- it is the last one given, and the lowest free slot has it
-    pub given-again : (after.last ≡ number) × ((at after (lowest_free kept-now)).slot.number ≡ number) × ((at after (lowest_free kept-now)).order ≡ (order_at list j).number)
+    pub given-again : (after.last ≡ number) × ((at after (lowest_free kept_now)).slot.number ≡ number) × ((at after (lowest_free kept_now)).order ≡ (order_at list j).number)
     unfolding desk_run step_of
     given-again =
         let rooms = next-room rest rows enough few before s list f in
-        let first : Seats = record { places = kept-now; last = before.last } in
+        let first : Seats = record { places = kept_now; last = before.last } in
         let e = one_placed resting list first j (one_kept s.orderly f one) f.named rooms in
-        let spare : lowest_free kept-now < slot_count = room resting list first j (one_kept s.orderly f one) f.named rooms in
+        let spare : lowest_free kept_now < slot_count = room resting list first j (one_kept s.orderly f one) f.named rooms in
         let there =
-        get_or-set_same kept-now (lowest_free kept-now) (new_place resting (order_at list j) first) free_place (omega (arith, (kept-orderly s.orderly f).twenty)) in (
+        get_or-set_same kept_now (lowest_free kept_now) (new_place resting (order_at list j) first) free_place (omega (arith, (kept-orderly s.orderly f).twenty)) in (
           ap (λ (x : Seats). x.last) e ∙ gets,
-          ap (λ (x : Seats). (place_at x.places (lowest_free kept-now)).slot.number) e ∙ (ap (λ (x : Place). x.slot.number) there ∙ gets),
-          ap (λ (x : Seats). (place_at x.places (lowest_free kept-now)).order) e ∙ ap (λ (x : Place). x.order) there,
+          ap (λ (x : Seats). (place_at x.places (lowest_free kept_now)).slot.number) e ∙ (ap (λ (x : Place). x.slot.number) there ∙ gets),
+          ap (λ (x : Seats). (place_at x.places (lowest_free kept_now)).order) e ∙ ap (λ (x : Place). x.order) there,
         )

@@ -42,5 +42,5 @@ packet_of desk packet = record { packet = packet; step = desk.step; slots = four
 
 -- R-26: a desk that a making and earlier calls gave
 pub data Made : Desk → Type 0 where
-  made-fresh : Made fresh_desk
+  made_fresh : Made fresh_desk
   called : {desk : Desk} → Made desk → (list : List ℕ) → Made (accept_of base_rest desk list).desk

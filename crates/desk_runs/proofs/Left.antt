@@ -6,7 +6,7 @@ use mathlib.Core.List.{List, [], ◌∷◌}
 use lib.ListN.{length, take, drop}
 use Rattle.frames.specs.Frames.{no_bare, whole_size}
 use Rattle.frames.proofs.Splitting.{calls_more, calls_none, calls_end}
-use Rattle.desk.specs.Desks.{base_rest, accept_of, Made, made-fresh, called}
+use Rattle.desk.specs.Desks.{base_rest, accept_of, Made, made_fresh, called}
 use Rattle.desk.specs.declared.Desk.{Desk}
 use Rattle.desk_runs.specs.Runs.{lists_of, desk_from, desk_at_end}
 
@@ -32,4 +32,4 @@ made-from {desk = desk} m (list ∷ later) = made-from {desk = (accept_of base_r
 -- so that a next list may be handed to it
 pub made-at-end : (input : List ℕ) → Made (desk_at_end input)
 unfolding desk_at_end
-made-at-end input = made-from made-fresh (lists_of input)
+made-at-end input = made-from made_fresh (lists_of input)

@@ -23,7 +23,7 @@ use Rattle.hand.specs.declared.Hand.{Hand}
 
 -- packet k, 0 to 4 for 3 to 7, of the table is in the set exactly when `got k`
 pub record Gathered (table : List Slot) (step : ℕ) (got : ℕ → Bool) (hand : Hand) : Type 0 where
-  pub own-step : hand.step ≡ step
+  pub own_step : hand.step ≡ step
   pub five : length hand.held ≡ packets
   pub twenty : length hand.slots ≡ slot_count
   pub held : (k : ℕ) → k < packets → get_or hand.held k false ≡ got k
@@ -34,7 +34,7 @@ pub gathered_none : (table : List Slot) (step : ℕ) (got : ℕ → Bool) → ((
 unfolding begun
 gathered_none table step got none =
     record {
-      own-step = refl;
+      own_step = refl;
       five = refl;
       twenty = refl;
       held = λ k p. get_or-replicate packets k false false p ∙ sym (none k p);
@@ -46,7 +46,7 @@ pub gathered_as : {table : List Slot} {step : ℕ} {got : ℕ → Bool} {hand : 
     → Gathered table step got hand → Gathered table step got' hand
 gathered_as got' same g =
     record {
-      own-step = g.own-step;
+      own_step = g.own_step;
       five = g.five;
       twenty = g.twenty;
       held = λ k p. g.held k p ∙ sym (same k p);
@@ -65,7 +65,7 @@ module _ {table : List Slot} {step : ℕ} {got : ℕ → Bool} {hand : Hand} (g 
   unfolding joined
   gathered-more packet low high =
       record {
-        own-step = g.own-step;
+        own_step = g.own_step;
         five = length-set hand.held (packet - first_packet) true ∙ g.five;
         twenty = length-sets hand.slots (first_slot packet) (four_of table packet) ∙ g.twenty;
         held = λ k p.

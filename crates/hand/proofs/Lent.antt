@@ -127,20 +127,20 @@ module _ (memory telegram : List ℕ) where
   abbrev place : ℕ
   place = packet_in telegram - first_packet
 
-  abbrev held-now : List ℕ
-  held-now = sets memory (held_from + place) (1 ∷ [])
+  abbrev held_now : List ℕ
+  held_now = sets memory (held_from + place) (1 ∷ [])
 
   pub joined_length : length (joined_in memory telegram) ≡ length memory
   unfolding joined_in
-  joined_length = four-length telegram (first_slot (packet_in telegram)) held-now 4 ∙ length-sets memory (held_from + place) (1 ∷ [])
+  joined_length = four-length telegram (first_slot (packet_in telegram)) held_now 4 ∙ length-sets memory (held_from + place) (1 ∷ [])
 
   pub joined-below : packet_in telegram ≤ 7 → Below (joined_in memory telegram) memory
   unfolding joined_in
   joined-below p r q =
-      four-front telegram (first_slot (packet_in telegram)) held-now 4 (0 + r) (omega arith) ∙ sets-out 0 (1 ∷ []) memory (held_from + place) (0 + r) (inl (omega arith))
+      four-front telegram (first_slot (packet_in telegram)) held_now 4 (0 + r) (omega arith) ∙ sets-out 0 (1 ∷ []) memory (held_from + place) (0 + r) (inl (omega arith))
 
   module _ (long : length memory ≡ memory_size) (whole : length telegram ≡ 26) (packet : packet_in telegram ≤ 7) where
-    held-long : length held-now ≡ memory_size
+    held-long : length held_now ≡ memory_size
     held-long = length-sets memory (held_from + place) (1 ∷ []) ∙ long
 
     first-low : first_slot (packet_in telegram) ≤ 16
@@ -151,12 +151,12 @@ module _ (memory telegram : List ℕ) where
     unfolding place_slot
     placed k p = rw (eq-eqb (length telegram) 26 whole, lt-ltb k 4 p) refl
 
-    front : (j : ℕ) → j < set_from → get_or (joined_in memory telegram) j 0 ≡ get_or held-now j 0
+    front : (j : ℕ) → j < set_from → get_or (joined_in memory telegram) j 0 ≡ get_or held_now j 0
     unfolding joined_in
-    front j p = four-front telegram (first_slot (packet_in telegram)) held-now 4 j p
+    front j p = four-front telegram (first_slot (packet_in telegram)) held_now 4 j p
 
-    own-step : (k : ℕ) → k < 2 → get_or (joined_in memory telegram) (step_from + k) 0 ≡ get_or memory (step_from + k) 0
-    own-step k p = front (step_from + k) (omega arith) ∙ sets-out 0 (1 ∷ []) memory (held_from + place) (step_from + k) (inl (omega arith))
+    own_step : (k : ℕ) → k < 2 → get_or (joined_in memory telegram) (step_from + k) 0 ≡ get_or memory (step_from + k) 0
+    own_step k p = front (step_from + k) (omega arith) ∙ sets-out 0 (1 ∷ []) memory (held_from + place) (step_from + k) (inl (omega arith))
 
     own_held : flags_at (joined_in memory telegram) held_from packets ≡ set (flags_at memory held_from packets) place true
     own_held =
@@ -169,7 +169,7 @@ module _ (memory telegram : List ℕ) where
         ∙ on (eqb k place)
         (λ e.
         let same : k ≡ place = eqb-true k place e in
-        ap (λ (n : ℕ). is_set (get_or held-now (held_from + n) 0)) same
+        ap (λ (n : ℕ). is_set (get_or held_now (held_from + n) 0)) same
         ∙ (ap is_set (get_or-set_same memory (held_from + place) 1 0 (omega (arith, long)))
         ∙ sym (ap (λ (n : ℕ). get_or (set (flags_at memory held_from packets) place true) n false) same
         ∙ get_or-set_same (flags_at memory held_from packets) place true false (omega (arith, length_flags memory held_from packets)))))
@@ -182,17 +182,17 @@ module _ (memory telegram : List ℕ) where
     own-slots : set_in (joined_in memory telegram) ≡ sets (set_in memory) (first_slot (packet_in telegram)) (telegram_of telegram).slots
     unfolding joined_in telegram_of
     own-slots =
-        four-all telegram (first_slot (packet_in telegram)) held-now held-long first-low
+        four-all telegram (first_slot (packet_in telegram)) held_now held-long first-low
         ∙ ((λ t. sets (same_set t) (first_slot (packet_in telegram)) (placed 0 (omega arith) t ∷ placed 1 (omega arith) t ∷ placed 2 (omega arith) t ∷ placed 3 (omega arith) t ∷ [])))
       where
-        same_set : set_in held-now ≡ set_in memory
-        same_set = table_same held-now memory set_from set_from (same_out (1 ∷ []) memory (held_from + place) (slot_room * slot_count) set_from (inr (omega arith)))
+        same_set : set_in held_now ≡ set_in memory
+        same_set = table_same held_now memory set_from set_from (same_out (1 ∷ []) memory (held_from + place) (slot_room * slot_count) set_from (inr (omega arith)))
 
     pub joined-hand : hand_in (joined_in memory telegram) ≡ joined (hand_in memory) (telegram_of telegram)
     unfolding hand_in joined telegram_of
     joined-hand =
         λ t. record {
-          step = word_of_two (own-step 0 (omega arith) t) (own-step 1 (omega arith) t);
+          step = word_of_two (own_step 0 (omega arith) t) (own_step 1 (omega arith) t);
           held = own_held t;
           slots = own-slots t;
         }
@@ -212,41 +212,41 @@ module _ (hand : Hand) (five : length hand.held ≡ packets) where
   hand-length = omega (arith, length-append (map flag_byte hand.held) (table_bytes hand.slots), length-map hand.held flag_byte, five, table-length hand.slots)
 
   module _ (memory : List ℕ) where
-    abbrev with-front : List ℕ
-    with-front = sets memory step_from (front_bytes hand)
+    abbrev with_front : List ℕ
+    with_front = sets memory step_from (front_bytes hand)
 
     -- first that, and then the slots
     pub hand_parts : sets (sets memory step_from (front_bytes hand)) set_from (table_bytes hand.slots) ≡ sets memory step_from (hand_bytes hand)
     unfolding hand_bytes
     hand_parts =
-        let before : Put memory step_from (front_bytes hand) with-front set_from = record { stored = refl; past = omega (arith, front_length) } in
-        let after : Put with-front set_from (table_bytes hand.slots) (sets with-front set_from (table_bytes hand.slots)) (set_from + length (table_bytes hand.slots)) =
+        let before : Put memory step_from (front_bytes hand) with_front set_from = record { stored = refl; past = omega (arith, front_length) } in
+        let after : Put with_front set_from (table_bytes hand.slots) (sets with_front set_from (table_bytes hand.slots)) (set_from + length (table_bytes hand.slots)) =
         record { stored = refl; past = refl } in
         (put_then before after).stored
 
     module _ (long : length memory ≡ memory_size) where
-      abbrev with-hand : List ℕ
-      with-hand = sets memory step_from (hand_bytes hand)
+      abbrev with_hand : List ℕ
+      with_hand = sets memory step_from (hand_bytes hand)
 
-      step_back : word_of_two (get_or with-hand step_from 0) (get_or with-hand (step_from + 1) 0) ≡ hand.step
+      step_back : word_of_two (get_or with_hand step_from 0) (get_or with_hand (step_from + 1) 0) ≡ hand.step
       unfolding hand_bytes
       step_back =
           let fits : step_from + length (hand_bytes hand) ≤ length memory = omega (arith, hand-length, long) in
-          let high : get_or with-hand step_from 0 ≡ hand.step / 256 = sets_in 0 (hand_bytes hand) memory step_from 0 (omega (arith, hand-length)) fits in
-          let low : get_or with-hand (step_from + 1) 0 ≡ hand.step % 256 = sets_in 0 (hand_bytes hand) memory step_from 1 (omega (arith, hand-length)) fits in
+          let high : get_or with_hand step_from 0 ≡ hand.step / 256 = sets_in 0 (hand_bytes hand) memory step_from 0 (omega (arith, hand-length)) fits in
+          let low : get_or with_hand (step_from + 1) 0 ≡ hand.step % 256 = sets_in 0 (hand_bytes hand) memory step_from 1 (omega (arith, hand-length)) fits in
           (λ t. word_of_two (high t) (low t)) ∙ word_back hand.step
 
-      held_back : flags_at with-hand held_from packets ≡ hand.held
+      held_back : flags_at with_hand held_from packets ≡ hand.held
       held_back =
           let words = set (set memory step_from (hand.step / 256)) (step_from + 1) (hand.step % 256) in
           let words_long : length words ≡ length memory = length-set (set memory step_from (hand.step / 256)) (step_from + 1) (hand.step % 256) ∙ length-set memory step_from (hand.step / 256) in
           ap (λ l. flags_at l held_from packets) (sym hand_parts)
-          ∙ (flags_same (sets with-front set_from (table_bytes hand.slots)) with-front held_from held_from packets (same_out (table_bytes hand.slots) with-front set_from packets held_from (inl (omega arith)))
-          ∙ (ap (λ (n : ℕ). flags_at with-front held_from n) (sym five) ∙ flags_back hand.held words held_from (omega (arith, words_long, long, five))))
+          ∙ (flags_same (sets with_front set_from (table_bytes hand.slots)) with_front held_from held_from packets (same_out (table_bytes hand.slots) with_front set_from packets held_from (inl (omega arith)))
+          ∙ (ap (λ (n : ℕ). flags_at with_front held_from n) (sym five) ∙ flags_back hand.held words held_from (omega (arith, words_long, long, five))))
 
-      pub hand-back : length hand.slots ≡ slot_count → hand_in with-hand ≡ hand
+      pub hand-back : length hand.slots ≡ slot_count → hand_in with_hand ≡ hand
       unfolding hand_in
       hand-back twenty =
-          let slots-back : set_in with-hand ≡ hand.slots =
-          ap set_in (sym hand_parts) ∙ table-back hand.slots with-front set_from twenty (omega (arith, length-sets memory step_from (front_bytes hand), long)) in
+          let slots-back : set_in with_hand ≡ hand.slots =
+          ap set_in (sym hand_parts) ∙ table-back hand.slots with_front set_from twenty (omega (arith, length-sets memory step_from (front_bytes hand), long)) in
           λ t. record { step = step_back t; held = held_back t; slots = slots-back t }

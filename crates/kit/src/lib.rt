@@ -1,1 +1,3 @@
 // Definitions and laws that know nothing of trains. No code: specs/ defines, proofs/ proves.
+
+#![tactic(auto)]

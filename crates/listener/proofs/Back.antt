@@ -31,20 +31,20 @@ pub record Sized (listener : Listener) : Type 0 where
   pub set : length listener.hand.slots ≡ slot_count
 
 module _ (listener : Listener) (sized : Sized listener) where
-  abbrev blank-memory : List ℕ
-  blank-memory = replicate memory_size 0
+  abbrev blank_memory : List ℕ
+  blank_memory = replicate memory_size 0
 
-  abbrev with_picture_lem : List ℕ
-  with_picture_lem = sets blank-memory 0 (table_bytes listener.picture)
+  abbrev picture_put : List ℕ
+  picture_put = sets blank_memory 0 (table_bytes listener.picture)
 
-  abbrev with_marks_lem : List ℕ
-  with_marks_lem = with_marks with_picture_lem listener.marks
+  abbrev marks_put : List ℕ
+  marks_put = with_marks picture_put listener.marks
 
-  abbrev with_last_lem : List ℕ
-  with_last_lem = sets with_marks_lem last_from (last_bytes listener.last)
+  abbrev last_put : List ℕ
+  last_put = sets marks_put last_from (last_bytes listener.last)
 
-  abbrev with-hand : List ℕ
-  with-hand = sets with_last_lem step_from (hand_bytes listener.hand)
+  abbrev with_hand : List ℕ
+  with_hand = sets last_put step_from (hand_bytes listener.hand)
 
   picture-size : length (table_bytes listener.picture) ≡ 140
   picture-size = table-length listener.picture
@@ -58,20 +58,20 @@ module _ (listener : Listener) (sized : Sized listener) where
   hand-size : length (hand_bytes listener.hand) ≡ 147
   hand-size = hand-length listener.hand sized.held
 
-  long-blank : length blank-memory ≡ memory_size
+  long-blank : length blank_memory ≡ memory_size
   long-blank = length-replicate {A = ℕ} memory_size 0
 
-  long-picture : length with_picture_lem ≡ memory_size
-  long-picture = length-sets blank-memory 0 (table_bytes listener.picture) ∙ long-blank
+  long-picture : length picture_put ≡ memory_size
+  long-picture = length-sets blank_memory 0 (table_bytes listener.picture) ∙ long-blank
 
-  long-marks : length with_marks_lem ≡ memory_size
-  long-marks = marked-long with_picture_lem long-picture listener.marks
+  long-marks : length marks_put ≡ memory_size
+  long-marks = marked-long picture_put long-picture listener.marks
 
-  long-last : length with_last_lem ≡ memory_size
-  long-last = length-sets with_marks_lem last_from (last_bytes listener.last) ∙ long-marks
+  long-last : length last_put ≡ memory_size
+  long-last = length-sets marks_put last_from (last_bytes listener.last) ∙ long-marks
 
   -- its parts one after another are its bytes
-  pub built : with-hand ≡ listener_bytes listener
+  pub built : with_hand ≡ listener_bytes listener
   unfolding with_marks listener_bytes
   built =
       let bytes : length (listener_bytes listener) ≡ memory_size =
@@ -85,27 +85,27 @@ module _ (listener : Listener) (sized : Sized listener) where
         length-append (map flag_byte listener.marks) (last_bytes listener.last ++ hand_bytes listener.hand),
         length-append (last_bytes listener.last) (hand_bytes listener.hand),
       ) in
-      let one : Put blank-memory 0 (table_bytes listener.picture) with_picture_lem marks_from = record { stored = refl; past = omega (arith, picture-size) } in
-      let two : Put with_picture_lem marks_from (map flag_byte listener.marks) with_marks_lem last_from = record { stored = refl; past = omega (arith, marks-size) } in
-      let three : Put with_marks_lem last_from (last_bytes listener.last) with_last_lem step_from = record { stored = refl; past = omega (arith, last-size) } in
-      let four : Put with_last_lem step_from (hand_bytes listener.hand) with-hand (step_from + length (hand_bytes listener.hand)) = record { stored = refl; past = refl } in
+      let one : Put blank_memory 0 (table_bytes listener.picture) picture_put marks_from = record { stored = refl; past = omega (arith, picture-size) } in
+      let two : Put picture_put marks_from (map flag_byte listener.marks) marks_put last_from = record { stored = refl; past = omega (arith, marks-size) } in
+      let three : Put marks_put last_from (last_bytes listener.last) last_put step_from = record { stored = refl; past = omega (arith, last-size) } in
+      let four : Put last_put step_from (hand_bytes listener.hand) with_hand (step_from + length (hand_bytes listener.hand)) = record { stored = refl; past = refl } in
       put_whole (long-blank ∙ sym bytes) (put_then one (put_then two (put_then three four)))
 
-  parts_back : listener_in with-hand ≡ listener
+  parts_back : listener_in with_hand ≡ listener
   unfolding listener_in with_marks
   parts_back =
-      let below : Below with-hand with_last_lem = same_out (hand_bytes listener.hand) with_last_lem step_from step_from 0 (inl (omega arith)) in
-      let picture : picture_in with-hand ≡ listener.picture =
-      picture-below with-hand with_last_lem below
-      ∙ (table_same with_last_lem with_marks_lem 0 0 (same_out (last_bytes listener.last) with_marks_lem last_from (slot_room * slot_count) 0 (inl (omega arith)))
-      ∙ (table_same with_marks_lem with_picture_lem 0 0 (same_out (map flag_byte listener.marks) with_picture_lem marks_from (slot_room * slot_count) 0 (inl (omega arith)))
-      ∙ table-back listener.picture blank-memory 0 sized.picture (omega (arith, long-blank)))) in
-      let marks : marks_in with-hand ≡ listener.marks =
-      marks-below with-hand with_last_lem below
-      ∙ (flags_same with_last_lem with_marks_lem marks_from marks_from slot_count (same_out (last_bytes listener.last) with_marks_lem last_from slot_count marks_from (inl (omega arith)))
-      ∙ own-marks with_picture_lem long-picture listener.marks sized.marks) in
-      let last : last_in with-hand ≡ listener.last = last-below with-hand with_last_lem below ∙ last-back with_marks_lem long-marks listener.last in
-      let hand : hand_in with-hand ≡ listener.hand = hand-back listener.hand sized.held with_last_lem long-last sized.set in
+      let below : Below with_hand last_put = same_out (hand_bytes listener.hand) last_put step_from step_from 0 (inl (omega arith)) in
+      let picture : picture_in with_hand ≡ listener.picture =
+      picture-below with_hand last_put below
+      ∙ (table_same last_put marks_put 0 0 (same_out (last_bytes listener.last) marks_put last_from (slot_room * slot_count) 0 (inl (omega arith)))
+      ∙ (table_same marks_put picture_put 0 0 (same_out (map flag_byte listener.marks) picture_put marks_from (slot_room * slot_count) 0 (inl (omega arith)))
+      ∙ table-back listener.picture blank_memory 0 sized.picture (omega (arith, long-blank)))) in
+      let marks : marks_in with_hand ≡ listener.marks =
+      marks-below with_hand last_put below
+      ∙ (flags_same last_put marks_put marks_from marks_from slot_count (same_out (last_bytes listener.last) marks_put last_from slot_count marks_from (inl (omega arith)))
+      ∙ own-marks picture_put long-picture listener.marks sized.marks) in
+      let last : last_in with_hand ≡ listener.last = last-below with_hand last_put below ∙ last-back marks_put long-marks listener.last in
+      let hand : hand_in with_hand ≡ listener.hand = hand-back listener.hand sized.held last_put long-last sized.set in
       λ t. record { picture = picture t; marks = marks t; last = last t; hand = hand t }
 
   -- and the memory that has them means the listener

@@ -16,7 +16,7 @@ use Rattle.wire.specs.declared.verdicts.Verdict.TheVariants.{Accepted, Refused a
 use Rattle.telegram.specs.Tables.{packets, first_packet}
 use Rattle.telegram.specs.Telegrams.{packet_in, step_in, telegram_of, read_rows, read_refusal, blank_telegram}
 use Rattle.telegram.specs.declared.Telegram.{Telegram}
-use Rattle.telegram.proofs.Rows.{read-refused, read-accepted, read-numbered, read-to_14}
+use Rattle.telegram.proofs.Rows.{read_refused, read-accepted, read-numbered, read-to_14}
 use Rattle.memory.specs.Memory.{memory_size, set_from, picture_in, set_in}
 use Rattle.memory.proofs.Slots.{length-table}
 use Rattle.picture.specs.Pictures.{count_of, clashes}
@@ -285,7 +285,7 @@ module _ (memory telegram : List ℕ) where
       record {
         meant =
             sym
-            (ap (hear_of carries (listener_in memory)) (read-refused telegram refusal e n)
+            (ap (hear_of carries (listener_in memory)) (read_refused telegram refusal e n)
             ∙ hear-refused carries (listener_in memory) (record { verdict = refusedBy refusal; telegram = blank_telegram }) refusal refl);
         bytes = sym (ap (λ b. cond b (begun_in (taken_with memory telegram) 0) memory) (ne_eqb refusal 15 (not_fifteen refusal e n)));
       }

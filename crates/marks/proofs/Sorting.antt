@@ -17,7 +17,7 @@ use Rattle.marks.proofs.Lent.{there-empty, there-alike, length-there, there-at}
 module _ (memory : List ℕ) where
   pub sorted_none : (others : List ℕ) (marks : List Bool) → length marks ≡ slot_count → length others ≡ slot_count → Sorted memory 0 0 0 others marks
   sorted_none others marks a b =
-      record { either = λ j p. absurd (omega arith); other = λ m p. absurd (omega arith); few = omega arith; marks-long = a; others-long = b }
+      record { either = λ j p. absurd (omega arith); other = λ m p. absurd (omega arith); few = omega arith; marks_long = a; others_long = b }
 
   module _ (marks : List Bool) (at : ℕ) (mark : Bool) (inside : at < length marks) where
     -- a mark that is put right, and the marks that stand beside it
@@ -34,10 +34,10 @@ module _ (memory : List ℕ) where
     Here = ((mark ≡ is_there memory i) × (next ≡ n)) ⊎ ((set_holds memory i ≡ true) × (next ≡ n + 1))
 
     in_marks : i < length marks
-    in_marks = omega (arith, s.marks-long)
+    in_marks = omega (arith, s.marks_long)
 
     in_others : n < length others
-    in_others = omega (arith, s.others-long, s.few)
+    in_others = omega (arith, s.others_long, s.few)
 
     not_fewer : Here → n ≤ next
     not_fewer (inl (right, same)) = omega arith
@@ -80,8 +80,8 @@ module _ (memory : List ℕ) where
               either-before here j q (s.either j q));
           other = other_after here;
           few = few-after here;
-          marks-long = length-set marks i mark ∙ s.marks-long;
-          others-long = length-set others n i ∙ s.others-long;
+          marks_long = length-set marks i mark ∙ s.marks_long;
+          others_long = length-set others n i ∙ s.others_long;
         }
 
     -- which of the two it is, by its tests
@@ -108,7 +108,7 @@ module _ (memory : List ℕ) where
 
       pub sorted_next : (mark : Bool) → mark ≡ is_there memory at → Sorted memory slot_count (k + 1) n others (set marks at mark)
       sorted_next mark right =
-          let inside : at < length marks = omega (arith, (s.other k p).0, s.marks-long) in
+          let inside : at < length marks = omega (arith, (s.other k p).0, s.marks_long) in
           record {
             either = λ j q.
                 on (eqb j at)
@@ -116,8 +116,8 @@ module _ (memory : List ℕ) where
                 (λ other. either-next mark inside j (eqb-false j at other) (s.either j q));
             other = s.other;
             few = s.few;
-            marks-long = length-set marks at mark ∙ s.marks-long;
-            others-long = s.others-long;
+            marks_long = length-set marks at mark ∙ s.marks_long;
+            others_long = s.others_long;
           }
 
     marked : n ≤ k → (j : ℕ) → IsMarked memory marks j ⊎ IsOther others k n j → IsMarked memory marks j
@@ -127,7 +127,7 @@ module _ (memory : List ℕ) where
     -- none of the others is left
     pub sorted_all : n ≤ k → marks ≡ all_there memory
     sorted_all past =
-        ext_get_or false marks (all_there memory) (s.marks-long ∙ sym (length-there memory))
+        ext_get_or false marks (all_there memory) (s.marks_long ∙ sym (length-there memory))
         (λ j p.
-        let q : j < slot_count = omega (arith, s.marks-long) in
+        let q : j < slot_count = omega (arith, s.marks_long) in
         marked past j (s.either j q) ∙ sym (there-at memory j q))

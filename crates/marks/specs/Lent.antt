@@ -51,8 +51,8 @@ pub record Sorted (memory : List ℕ) (i k n : ℕ) (others : List ℕ) (marks :
   pub either : (j : ℕ) → j < i → IsMarked memory marks j ⊎ IsOther others k n j
   pub other : (m : ℕ) → m < n → (get_or others m 0 < i) × (set_holds memory (get_or others m 0) ≡ true)
   pub few : n ≤ i
-  pub marks-long : length marks ≡ slot_count
-  pub others-long : length others ≡ slot_count
+  pub marks_long : length marks ≡ slot_count
+  pub others_long : length others ≡ slot_count
 
 -- the numbers of the first i slots of the picture have their flags set
 pub record Seen (memory : List ℕ) (i : ℕ) (seen : List Bool) : Type 0 where

@@ -6,10 +6,10 @@ use Prim.Native.Nat.{ℕ, ◌<◌, ◌≤◌}
 use mathlib.Core.Path.{◌≡◌, refl, sym, ◌∙◌, subst}
 use mathlib.Core.Bool.{Bool, true, false}
 use mathlib.Core.List.{List, ◌++◌, map}
-use lib.Dec.{eqb, ltb}
+use lib.Dec.{eqb}
 use lib.ListN.{length-map, length, length-append}
 use native.Mathlib.Omega.{arith}
-use borrow.Author.Tests.{eqb-true, eq-eqb, ltb-true, ltb-false, not-true}
+use borrow.Author.Tests.{eqb-true, eq-eqb, not-true}
 use Rattle.kit.specs.Loops.{find}
 use Rattle.kit.specs.Member.{member}
 use Rattle.kit.proofs.Cases.{on, clash, given, or_neither, and_both}
@@ -74,7 +74,7 @@ module _ (resting : ℕ → Bool) (places : List Place) where
       pub passed : (j : ℕ) → j < others → is_permitted resting places (number_after last j) ≡ false
 
     -- where one of the 255 is permitted, the search ends at the first that is
-    search_ends : (i : ℕ) → i < 255 → is_permitted resting places (number_after last i) ≡ true → FirstPermitted (next_number resting places last)
+    pub search_ends : (i : ℕ) → i < 255 → is_permitted resting places (number_after last i) ≡ true → FirstPermitted (next_number resting places last)
     search_ends i p e =
         let test : ℕ → Bool = λ others. is_permitted resting places (number_after last others) in
         given (found-there test 255 (found_when test 255 i p e))
@@ -105,29 +105,3 @@ module _ (resting : ℕ → Bool) (kept : List ℕ) (covered : (n : ℕ) → res
             (on (has_number places n) (λ t. absurd (clash (covers-placed places twenty n t) a)) (λ t. t))
             (on (resting n) (λ t. absurd (clash (covered n t) b)) (λ t. t)),
       )))
-
-  -- .. so a search that has passed k others has not passed all
-  pub others-few : (k : ℕ) → ((j : ℕ) → j < k → is_permitted resting places (number_after last j) ≡ false) → k < 255
-  others-few k before =
-      given permitted_exists
-      (λ (i, p, e). on (ltb i k) (λ t. absurd (clash e (before i (ltb-true i k t)))) (λ t. omega (arith, ltb-false i k t)))
-
-  pub search_found : FirstPermitted resting places last (next_number resting places last)
-  search_found = given permitted_exists (λ (i, p, e). search_ends resting places last i p e)
-
-  -- D-09: the search finds it
-  pub number-permitted : is_permitted resting places (next_number resting places last) ≡ true
-  number-permitted =
-      given search_found (λ found. subst (λ (n : ℕ). is_permitted resting places n ≡ true) (sym found.after) found.permitted)
-
-  -- D-10: a number from 1 to 255
-  pub number-range : (1 ≤ next_number resting places last) × (next_number resting places last ≤ 255)
-  number-range = given search_found (λ found. (omega (arith, found.after), omega (arith, found.after)))
-
-  -- D-12: no live order has it, and it does not rest
-  pub number-idle : (i : ℕ) → i < slot_count → (place_at places i).slot.number ≡ next_number resting places last → ⊥
-  number-idle i p e =
-      number-none places (next_number resting places last) i (permitted-only resting places (next_number resting places last) number-permitted).0 p e
-
-  pub number-rested : resting (next_number resting places last) ≡ false
-  number-rested = (permitted-only resting places (next_number resting places last) number-permitted).1

@@ -117,4 +117,4 @@ pub listener-listener_in : OneAnswer listener-contracts.listener_in.ended listen
 listener-listener_in κs handed answer other lasts others p q = (agree p q, refl)
 
 pub listener-hear_in : OneAnswer listener-contracts.hear_in.ended listener.hear_in.Reads.Learnt
-listener-hear_in = demand1.telegrams-lent.defined
+listener-hear_in = demand1.telegrams_lent.defined

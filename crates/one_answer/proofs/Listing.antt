@@ -70,7 +70,7 @@ lister-take κs handed answer other lasts others p q =
 
 -- the contract of `listener::hear_in`, word for word
 pub lister-hear_in : OneAnswer lister-contracts.hear_in.ended lister.hear_in.Reads.Learnt
-lister-hear_in = demand1.telegrams-lent.defined
+lister-hear_in = demand1.telegrams_lent.defined
 
 -- ---- hearing_runs
 

@@ -52,7 +52,7 @@ signals-update κs handed answer other lasts others p q = (updating_apart answer
 -- ---- signals_in_place
 
 pub signals_in_place-update : Asserted.OneAnswerLent signals-in-place-contracts.update.ended (λ M 𝓤 𝓛. signals-in-place-contracts.update.clauses 𝓛)
-signals_in_place-update = demand1.train-lent.defined
+signals_in_place-update = demand1.train_lent.defined
 
 pub signals_in_place-lend_and_update : OneAnswer signals-in-place-contracts.lend_and_update.ended signals-in-place.lend_and_update.Reads.Learnt
 signals_in_place-lend_and_update κs handed answer other lasts others p q = (updating_apart answer other (agree p q), refl)

@@ -111,19 +111,19 @@ decimal-last (suc d) n p q =
 -- ---- digits packed with the byte after them: a shift drops the leading ones that are no part of the decimal
 
 module _ (most d n after : ℕ) (rest : List ℕ) (fits : d ≤ most) (below : n < 10 ^ suc d) (above : 1 ≤ d → 10 ^ d ≤ n) (byte : after < 256) (small : Small rest) where
-  abbrev digits-then : ℕ → List ℕ
-  digits-then k = last_digits k n ++ (after ∷ rest)
+  abbrev digits_then : ℕ → List ℕ
+  digits_then k = last_digits k n ++ (after ∷ rest)
 
-  dropped : drop (most - d) (digits-then (suc most)) ≡ digits-then (suc d)
+  dropped : drop (most - d) (digits_then (suc most)) ≡ digits_then (suc d)
   dropped =
       drop-append-le (most - d) (last_digits (suc most) n) (after ∷ rest) (omega (arith, last-length (suc most) n))
       ∙ ap (λ l. l ++ (after ∷ rest)) (last-drop (most - d) (suc d) (suc most) n (omega arith))
 
   -- what the shift leaves
-  pub packed_piece : number_made (digits-then (suc most)) / 2 ^ (8 * (most - d)) ≡ number_made (decimal n ++ (after ∷ rest))
+  pub packed_piece : number_made (digits_then (suc most)) / 2 ^ (8 * (most - d)) ≡ number_made (decimal n ++ (after ∷ rest))
   packed_piece =
-      let all : Small (digits-then (suc most)) = small_append (last-small (suc most) n) (one_small byte small) in
-      let long : length (digits-then (suc most)) ≡ suc most + suc (length rest) =
+      let all : Small (digits_then (suc most)) = small_append (last-small (suc most) n) (one_small byte small) in
+      let long : length (digits_then (suc most)) ≡ suc most + suc (length rest) =
       length-append (last_digits (suc most) n) (after ∷ rest) ∙ ap (λ k. k + suc (length rest)) (last-length (suc most) n) in
       shift_made (most - d) all (omega arith) ∙ ap number_made (dropped ∙ ap (λ l. l ++ (after ∷ rest)) (sym (decimal-last d n below above)))
 

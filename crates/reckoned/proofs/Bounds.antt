@@ -31,7 +31,7 @@ use Rattle.claims.specs.Demand3.{vehicle, LostOrRepeated}
 use Rattle.claims.specs.Hearings.{Item, sent, wholes}
 use Rattle.claims.specs.Regular.{five_of, wholly}
 use Rattle.claims.proofs.Demand3.{demand3}
-use Rattle.reckoned.specs.Standing.{standing_lists, then-five, answers}
+use Rattle.reckoned.specs.Standing.{standing_lists, then_five, answers}
 use Rattle.reckoned.proofs.Standing.{Within, said, stood, fived, wire, answering, wires, five_wires, same-listener, same-answers, said-wires, standing-made, desk-five, desk-before-five}
 
 -- a table taken with its fifth packet, after others
@@ -51,18 +51,18 @@ module _ (k : ℕ) (at : List ℕ) (inside : Within k at) where
 
 -- ---- what the checker computes, of the bytes
 
-abbrev pub one-marked : List Bool
-one-marked = true ∷ replicate 19 false
+abbrev pub one_marked : List Bool
+one_marked = true ∷ replicate 19 false
 
-abbrev pub none-marked : List Bool
-none-marked = replicate 20 false
+abbrev pub none_marked : List Bool
+none_marked = replicate 20 false
 
 computed : (answering (wires (8209 ∷ 18 ∷ 9 ∷ 1 ∷ [])) ≡ taken 17 1 8191 (taken 18 1 9 (taken 9 1 8 (taken 1 1 0 []))))
-    × ((heard_all carries (wires (9 ∷ 1 ∷ []))).marks ≡ one-marked)
-    × ((heard_all carries (wires (18 ∷ 9 ∷ 1 ∷ []))).marks ≡ none-marked)
-    × ((heard_all carries (wires (8209 ∷ 18 ∷ 9 ∷ 1 ∷ []))).marks ≡ none-marked)
+    × ((heard_all carries (wires (9 ∷ 1 ∷ []))).marks ≡ one_marked)
+    × ((heard_all carries (wires (18 ∷ 9 ∷ 1 ∷ []))).marks ≡ none_marked)
+    × ((heard_all carries (wires (8209 ∷ 18 ∷ 9 ∷ 1 ∷ []))).marks ≡ none_marked)
     × (answering (wires (8194 ∷ 1 ∷ [])) ≡ taken 2 1 1 (taken 1 1 0 []))
-    × ((heard_all carries (wires (8194 ∷ 1 ∷ []))).marks ≡ one-marked)
+    × ((heard_all carries (wires (8194 ∷ 1 ∷ []))).marks ≡ one_marked)
     × (answering (five_wires (fived 1) (wires (1 ∷ []))) ≡ as_repeat ∷ as_repeat ∷ as_repeat ∷ as_repeat ∷ as_repeat ∷ taken 1 1 0 [])
     × (answering (five_wires (fived 1) (wire (stood 1) 3 ∷ [])) ≡ taken_as 1 2 0 ∷ as_held ∷ as_held ∷ as_held ∷ as_repeat ∷ as_held ∷ [])
 unfolding answering heard_all wires hear_of heard_of ladder set_for begun is_held joined is_whole how_many fold taken_by marks_of is_carried is_known is_same scan clashes is_twice bears_number count_of fresh_listener read_of verdict_of read_rows each coded_at taken_before slot_rows second_allowed second_held is_considered telegram_of body_of bytes_of six_of coded_of four_of table_of deskTelegram gap_of
@@ -80,41 +80,41 @@ pub gaps : answers (standing_lists 8209) (heard (8209 ∷ 18 ∷ 9 ∷ 1 ∷ [])
 gaps = answers_at 8209 (8209 ∷ 18 ∷ 9 ∷ 1 ∷ []) (omega arith) ∙ computed.0
 
 -- the marks, slot 0 being the condition's: carried over 8, new over 9 and over 8,191
-pub carried_over_8 : (vehicle (standing_lists 8209) (heard (9 ∷ 1 ∷ []))).marks ≡ one-marked
+pub carried_over_8 : (vehicle (standing_lists 8209) (heard (9 ∷ 1 ∷ []))).marks ≡ one_marked
 carried_over_8 = marks-at 8209 (9 ∷ 1 ∷ []) (omega arith) ∙ computed.1
 
-pub new_over_9 : (vehicle (standing_lists 8209) (heard (18 ∷ 9 ∷ 1 ∷ []))).marks ≡ none-marked
+pub new_over_9 : (vehicle (standing_lists 8209) (heard (18 ∷ 9 ∷ 1 ∷ []))).marks ≡ none_marked
 new_over_9 = marks-at 8209 (18 ∷ 9 ∷ 1 ∷ []) (omega arith) ∙ computed.2
 
-pub new_over_8191 : (vehicle (standing_lists 8209) (heard (8209 ∷ 18 ∷ 9 ∷ 1 ∷ []))).marks ≡ none-marked
+pub new_over_8191 : (vehicle (standing_lists 8209) (heard (8209 ∷ 18 ∷ 9 ∷ 1 ∷ []))).marks ≡ none_marked
 new_over_8191 = marks-at 8209 (8209 ∷ 18 ∷ 9 ∷ 1 ∷ []) (omega arith) ∙ computed.3
 
 -- ---- beyond the bound
 
 -- 8,193 steps from one whole table to the next: the gap shows 1, and the condition is called carried
-pub gap-not-true : (answers (standing_lists 8194) (heard (8194 ∷ 1 ∷ [])) ≡ taken 2 1 1 (taken 1 1 0 [])) × ((vehicle (standing_lists 8194) (heard (8194 ∷ 1 ∷ []))).marks ≡ one-marked)
+pub gap-not-true : (answers (standing_lists 8194) (heard (8194 ∷ 1 ∷ [])) ≡ taken 2 1 1 (taken 1 1 0 [])) × ((vehicle (standing_lists 8194) (heard (8194 ∷ 1 ∷ []))).marks ≡ one_marked)
 gap-not-true = (
   answers_at 8194 (8194 ∷ 1 ∷ []) (omega arith) ∙ computed.4,
   marks-at 8194 (8194 ∷ 1 ∷ []) (omega arith) ∙ computed.5,
 )
 
 -- the bytes of two runs in which a list of five comes in step 8,193
-said-missed : map (said (then-five 8192)) (heard (8193 ∷ 1 ∷ [])) ≡ five_wires (fived 1) (wires (1 ∷ []))
+said-missed : map (said (then_five 8192)) (heard (8193 ∷ 1 ∷ [])) ≡ five_wires (fived 1) (wires (1 ∷ []))
 unfolding wholly wires
 said-missed = ap₂ (λ new old. five_wires new (five_wires old [])) (desk-five 8191) (desk-before-five 8191 1 (omega arith) (omega arith))
 
-said_stale : map (said (then-five 8192)) (five_of 8193 (sent 1 3 ∷ [])) ≡ five_wires (fived 1) (wire (stood 1) 3 ∷ [])
+said_stale : map (said (then_five 8192)) (five_of 8193 (sent 1 3 ∷ [])) ≡ five_wires (fived 1) (wire (stood 1) 3 ∷ [])
 said_stale = ap₂ (λ new old. five_wires new (wire old 3 ∷ [])) (desk-five 8191) (desk-before-five 8191 1 (omega arith) (omega arith))
 
 -- 8,192 steps from the last whole table: the five telegrams of step 8,193 are taken for repeats of step 1, and its table is not taken
-pub table-missed : answers (then-five 8192) (heard (8193 ∷ 1 ∷ [])) ≡ as_repeat ∷ as_repeat ∷ as_repeat ∷ as_repeat ∷ as_repeat ∷ taken 1 1 0 []
-table-missed = same-answers (then-five 8192) (heard (8193 ∷ 1 ∷ [])) ∙ (ap answering said-missed ∙ computed.6)
+pub table-missed : answers (then_five 8192) (heard (8193 ∷ 1 ∷ [])) ≡ as_repeat ∷ as_repeat ∷ as_repeat ∷ as_repeat ∷ as_repeat ∷ taken 1 1 0 []
+table-missed = same-answers (then_five 8192) (heard (8193 ∷ 1 ∷ [])) ∙ (ap answering said-missed ∙ computed.6)
 
 -- 8,192 steps from the first telegram, packet 3 of step 1: that packet is kept as one of step 8,193, whose own packet 3 is called a
 -- repeat. The table taken has two conditions, and that of step 8,193 has five: a picture that never was
-pub table_mixed : (answers (then-five 8192) (five_of 8193 (sent 1 3 ∷ [])) ≡ taken_as 1 2 0 ∷ as_held ∷ as_held ∷ as_held ∷ as_repeat ∷ as_held ∷ []) × (count_of (table_in base_rest (then-five 8192) 8193) ≡ 5)
+pub table_mixed : (answers (then_five 8192) (five_of 8193 (sent 1 3 ∷ [])) ≡ taken_as 1 2 0 ∷ as_held ∷ as_held ∷ as_held ∷ as_repeat ∷ as_held ∷ []) × (count_of (table_in base_rest (then_five 8192) 8193) ≡ 5)
 unfolding count_of how_many fold table_of
 table_mixed = (
-  same-answers (then-five 8192) (five_of 8193 (sent 1 3 ∷ [])) ∙ (ap answering said_stale ∙ computed.7),
+  same-answers (then_five 8192) (five_of 8193 (sent 1 3 ∷ [])) ∙ (ap answering said_stale ∙ computed.7),
   ap (λ desk. count_of (table_of desk)) (desk-five 8191),
 )

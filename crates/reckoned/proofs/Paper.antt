@@ -29,7 +29,7 @@ use Rattle.signals.specs.Signals.{update_of}
 use Rattle.reckoned.proofs.Sameness.{same, same_equal}
 use Rattle.reckoned.proofs.Walking.{runs_seen}
 use Rattle.reckoned.proofs.Wrap.{wrap_holds}
-use Rattle.reckoned.specs.Reckoned.{AllHold, two_words, wire_bytes, ordering, held_first, received, p7_telegram, supported_in, showing, paper, short_rows, order_bytes, order_list, wholly-new, empty_lists, fresh_refusal, to_255, one_ended}
+use Rattle.reckoned.specs.Reckoned.{AllHold, two_words, wire_bytes, ordering, held_first, received, p7_telegram, supported_in, showing, paper, short_rows, order_bytes, order_list, wholly_new, empty_lists, fresh_refusal, to_255, one_ended}
 
 -- one row more
 infixr 20 ◌and◌
@@ -42,7 +42,7 @@ numbers {defined} {written} = same_equal defined written
 
 -- the checker computes the rows, but for the runs of P4 and P5, which are computed in Walking.antt and Wrap.antt
 short_hold : AllHold short_rows
-unfolding same order_bytes order_list wholly-new empty_lists to_255 one_ended fresh_refusal each ladder scan fold body_of second_held is_considered is_unfitted gap_of order_at listed_at place_of list_rows rests_by is_resting has_number next_number fresh_with kept_among ended_entry ended_among seated seated_all step_of received p7_telegram supported_in showing update_of train_reading train_rows zero_bit_set rest_set verdict_of states_of national_of brake_of two_words wire_bytes ordering held_first accept_of table_of Telegrams'.read_of read_rows coded_at taken_before telegram_of bytes_of slot_rows coded_of six_of second_allowed is_retyped order_rows
+unfolding same order_bytes order_list wholly_new empty_lists to_255 one_ended fresh_refusal each ladder scan fold body_of second_held is_considered is_unfitted gap_of order_at listed_at place_of list_rows rests_by is_resting has_number next_number fresh_with kept_among ended_entry ended_among seated seated_all step_of received p7_telegram supported_in showing update_of train_reading train_rows zero_bit_set rest_set verdict_of states_of national_of brake_of two_words wire_bytes ordering held_first accept_of table_of Telegrams'.read_of read_rows coded_at taken_before telegram_of bytes_of slot_rows coded_of six_of second_allowed is_retyped order_rows
 short_hold =
     -- P1
     numbers refl and refl and numbers refl and refl

@@ -37,7 +37,7 @@ use Rattle.listener.specs.Listeners.{carries, heard_all, hear_of}
 use Rattle.listener.specs.Answers.{Told}
 use Rattle.claims.proofs.History.{accepted-more, up_to-before, up_to-all}
 use Rattle.reckoned.specs.Reckoned.{order_bytes, order_list}
-use Rattle.reckoned.specs.Standing.{standing_lists, then-five, answers}
+use Rattle.reckoned.specs.Standing.{standing_lists, then_five, answers}
 
 -- order n with number n, type 1
 abbrev pub entry : ℕ → Place
@@ -106,23 +106,23 @@ module _ (k n : ℕ) (from : 1 ≤ n) (to : n ≤ k) where
 
 -- the same where a list of five comes after
 module _ (k : ℕ) where
-  five-is : (desk_after base_rest (then-five (suc k)) ≡ fived (suc (suc k) % steps)) × (accepted base_rest (then-five (suc k)) ≡ then-five (suc k))
-  unfolding then-five
+  five-is : (desk_after base_rest (then_five (suc k)) ≡ fived (suc (suc k) % steps)) × (accepted base_rest (then_five (suc k)) ≡ then_five (suc k))
+  unfolding then_five
   five-is =
       let call = ap (λ d. accept_of base_rest d (order_list 5 1)) (standing-is k).0 ∙ computed.2 ((suc k) % steps) in
       let next : (suc k % steps + 1) % steps ≡ suc (suc k) % steps = omega arith in
       let step = accepted-more base_rest (standing_lists (suc k)) (order_list 5 1) (fived (((suc k) % steps + 1) % steps)) call in
       (step.0 ∙ ap fived next, step.1 ∙ ap (λ l. order_list 5 1 ∷ l) (standing-is k).1)
 
-  pub five-made : steps_made base_rest (then-five (suc k)) ≡ suc (suc k)
-  unfolding then-five
+  pub five-made : steps_made base_rest (then_five (suc k)) ≡ suc (suc k)
+  unfolding then_five
   five-made = ap length five-is.1 ∙ ap suc (sym (ap length (standing-is k).1) ∙ standing-made (suc k))
 
-  pub desk-five : desk_of base_rest (then-five (suc k)) (suc (suc k)) ≡ fived (suc (suc k) % steps)
-  desk-five = ap (desk_after base_rest) (up_to-all base_rest (then-five (suc k)) (suc (suc k)) (omega (arith, five-made))) ∙ five-is.0
+  pub desk-five : desk_of base_rest (then_five (suc k)) (suc (suc k)) ≡ fived (suc (suc k) % steps)
+  desk-five = ap (desk_after base_rest) (up_to-all base_rest (then_five (suc k)) (suc (suc k)) (omega (arith, five-made))) ∙ five-is.0
 
-  pub desk-before-five : (n : ℕ) → 1 ≤ n → n ≤ suc k → desk_of base_rest (then-five (suc k)) n ≡ stood (n % steps)
-  unfolding then-five
+  pub desk-before-five : (n : ℕ) → 1 ≤ n → n ≤ suc k → desk_of base_rest (then_five (suc k)) n ≡ stood (n % steps)
+  unfolding then_five
   desk-before-five n from to =
       ap (desk_after base_rest) (up_to-before base_rest (standing_lists (suc k)) (order_list 5 1) n (omega (arith, five-made))) ∙ desk-standing (suc k) n from to
 

@@ -27,7 +27,7 @@ use Rattle.desk.specs.Steps.{step_of}
 use Rattle.desk.specs.declared.Answer.{Answer}
 use Rattle.desk.specs.declared.Desk.{Desk}
 use Rattle.claims.specs.Calls.{desk_after, accepted, steps_made}
-use Rattle.reckoned.specs.Reckoned.{order_bytes, order_list, wholly-new, one-stays, empty_lists, step_and_numbers, numbers_from, alone, to_255}
+use Rattle.reckoned.specs.Reckoned.{order_bytes, order_list, wholly_new, one_stays, empty_lists, step_and_numbers, numbers_from, alone, to_255}
 use Rattle.reckoned.proofs.Sameness.{same, same_equal}
 
 -- a desk and how many steps it has made
@@ -113,6 +113,6 @@ p5_looks =
     ∷ (order_list 1 1000 ∷ (empty_lists 7 ++ ([] ∷ [])), 23 ∷ alone 1)
     ∷ []
 
-pub runs_seen : Seen p4_looks (wholly-new 12) × Seen p5_looks to_255
-unfolding seen onwards looked walked counted same order_bytes order_list wholly-new one-stays empty_lists numbers_from alone to_255 each ladder scan fold body_of second_held is_considered second_allowed gap_of order_at listed_at place_of rests_by is_resting has_number next_number fresh_with accept_of verdict_of coded_of order_rows is_retyped list_rows kept_among ended_entry ended_among seated seated_all step_of
-runs_seen = (by_walk p4_looks (wholly-new 12) refl, by_walk p5_looks to_255 refl)
+pub runs_seen : Seen p4_looks (wholly_new 12) × Seen p5_looks to_255
+unfolding seen onwards looked walked counted same order_bytes order_list wholly_new one_stays empty_lists numbers_from alone to_255 each ladder scan fold body_of second_held is_considered second_allowed gap_of order_at listed_at place_of rests_by is_resting has_number next_number fresh_with accept_of verdict_of coded_of order_rows is_retyped list_rows kept_among ended_entry ended_among seated seated_all step_of
+runs_seen = (by_walk p4_looks (wholly_new 12) refl, by_walk p5_looks to_255 refl)

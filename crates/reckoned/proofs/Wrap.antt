@@ -28,7 +28,7 @@ use Rattle.desk.specs.Steps.{step_of}
 use Rattle.arriving.specs.Arriving.{seated, seated_all}
 use Rattle.desk.specs.declared.Desk.{Desk}
 use Rattle.reckoned.proofs.Walking.{Walked, counted, walked, walked-is}
-use Rattle.reckoned.specs.Reckoned.{order_bytes, order_list, wholly-new, empty_lists, step_and_numbers, alone, before_the_wrap}
+use Rattle.reckoned.specs.Reckoned.{order_bytes, order_list, wholly_new, empty_lists, step_and_numbers, alone, before_the_wrap}
 
 -- a desk with no order and nothing at rest, the last number given 255
 abbrev quiet : ℕ → Desk
@@ -43,7 +43,7 @@ computed : (walked (empty_lists 9 ++ before_the_wrap) ≡ (quiet 22, 22))
     × ((step : ℕ) → accept_of base_rest (quiet step) [] ≡ record { verdict = Accepted; desk = quiet ((step + 1) % steps) })
     × ((step : ℕ) → accept_of base_rest (quiet step) (order_list 1 1000) ≡ record { verdict = Accepted; desk = step_of base_rest (quiet step) (order_list 1 1000) })
     × ((step : ℕ) → numbers_of (step_of base_rest (quiet step) (order_list 1 1000)) ≡ alone 1)
-unfolding order_bytes order_list wholly-new empty_lists alone before_the_wrap each ladder scan fold body_of second_held is_considered second_allowed gap_of order_at listed_at place_of rests_by is_resting has_number next_number fresh_with walked counted accept_of verdict_of coded_of order_rows is_retyped list_rows kept_among ended_entry ended_among seated seated_all step_of
+unfolding order_bytes order_list wholly_new empty_lists alone before_the_wrap each ladder scan fold body_of second_held is_considered second_allowed gap_of order_at listed_at place_of rests_by is_resting has_number next_number fresh_with walked counted accept_of verdict_of coded_of order_rows is_retyped list_rows kept_among ended_entry ended_among seated seated_all step_of
 computed = (refl, (λ step. refl), (λ step. refl), (λ step. refl))
 
 -- however many more empty lists

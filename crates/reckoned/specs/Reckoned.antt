@@ -39,14 +39,14 @@ unfoldable pub order_list : ℕ → ℕ → List ℕ
 order_list k n = each order_bytes n k
 
 -- so many steps of twenty wholly new orders, the newest step first
-unfoldable pub wholly-new : ℕ → List (List ℕ)
-wholly-new zero = []
-wholly-new (suc k) = order_list 20 (k * 20 + 1) ∷ wholly-new k
+unfoldable pub wholly_new : ℕ → List (List ℕ)
+wholly_new zero = []
+wholly_new (suc k) = order_list 20 (k * 20 + 1) ∷ wholly_new k
 
 -- so many steps of one order that stays and nineteen new ones
-unfoldable pub one-stays : ℕ → List (List ℕ)
-one-stays zero = []
-one-stays (suc k) = (order_bytes 1 ++ order_list 19 (k * 20 + 2)) ∷ one-stays k
+unfoldable pub one_stays : ℕ → List (List ℕ)
+one_stays zero = []
+one_stays (suc k) = (order_bytes 1 ++ order_list 19 (k * 20 + 2)) ∷ one_stays k
 
 -- so many empty lists
 unfoldable pub empty_lists : ℕ → List (List ℕ)
@@ -74,7 +74,7 @@ fresh_refusal list = number_of (accept_of base_rest fresh_desk list).verdict ∷
 
 -- P5: order 1 has number 1 and stays while others use up the numbers to 255
 unfoldable pub to_255 : List (List ℕ)
-to_255 = (order_bytes 1 ++ order_list 7 900) ∷ one-stays 13
+to_255 = (order_bytes 1 ++ order_list 7 900) ∷ one_stays 13
 
 -- P5: in step 15 it ends; that is f
 unfoldable pub one_ended : List (List ℕ)
@@ -82,7 +82,7 @@ one_ended = [] ∷ to_255
 
 -- A-05: number 1 ends in step 2; by step 13 the last number given is 255
 unfoldable pub before_the_wrap : List (List ℕ)
-before_the_wrap = order_list 15 900 ∷ wholly-new 12
+before_the_wrap = order_list 15 900 ∷ wholly_new 12
 
 -- ---- one condition, on the wire and at the desk
 
@@ -202,8 +202,8 @@ short_rows =
     ∷ numbers_are (gap_of 3 8190 ∷ []) (5 ∷ [])
     ∷ numbers_are (gap_of 8191 0 ∷ []) (8191 ∷ [])
     -- P4: twenty wholly new orders every step: step 12 gives 221 to 240, step 13 gives 241 to 255 and then 1 to 5
-    ∷ numbers_are (step_and_numbers (wholly-new 12)) (12 ∷ numbers_from 20 221)
-    ∷ numbers_are (step_and_numbers (wholly-new 13)) (13 ∷ (numbers_from 15 241 ++ numbers_from 5 1))
+    ∷ numbers_are (step_and_numbers (wholly_new 12)) (12 ∷ numbers_from 20 221)
+    ∷ numbers_are (step_and_numbers (wholly_new 13)) (13 ∷ (numbers_from 15 241 ++ numbers_from 5 1))
     -- P5: last given 255; number 1 ended in step f, which is 15
     ∷ numbers_are (step_and_numbers to_255) (14 ∷ 1 ∷ (numbers_from 7 249 ++ replicate 12 0))
     ∷ numbers_are (step_and_numbers one_ended) (15 ∷ replicate 20 0)

@@ -14,8 +14,8 @@ unfoldable pub standing_lists : ℕ → List (List ℕ)
 standing_lists k = replicate k (order_bytes 1)
 
 -- and then one with the orders 1 to 5
-unfoldable pub then-five : ℕ → List (List ℕ)
-then-five k = order_list 5 1 ∷ standing_lists k
+unfoldable pub then_five : ℕ → List (List ℕ)
+then_five k = order_list 5 1 ∷ standing_lists k
 
 -- the answers of the listener that heard these, the newest first
 unfoldable pub answers : List (List ℕ) → List (Item (List ℕ)) → List Told

@@ -2,7 +2,7 @@
 use Prim.Native.Nat.{ℕ}
 use mathlib.Core.Path.{◌≡◌, refl, ap, ap₂}
 use native.Mathlib.Omega.{arith}
-use Rattle.signals.specs.Answers.{Receipt, was-accepted, was-missed, was_refused_lem, Noted, acceptance, absence, refusal_under, noted_of, Updating, updating_of}
+use Rattle.signals.specs.Answers.{Receipt, receipt_accepted, receipt_missed, receipt_refused, Noted, acceptance, absence, refusal_under, noted_of, Updating, updating_of}
 use Rattle.signals.specs.declared.Answer.{Answer}
 use Rattle.signals.specs.declared.Answer.TheVariants.{Accepted, Missed, Refused}
 use Rattle.signals.specs.declared.Signals.{Signals}
@@ -10,9 +10,9 @@ use Rattle.signals.specs.declared.Updated.{Updated}
 
 -- the three, counted, so that two of them are never the same
 rank : Receipt → ℕ
-rank was-accepted = 0
-rank was-missed = 1
-rank was_refused_lem = 2
+rank receipt_accepted = 0
+rank receipt_missed = 1
+rank receipt_refused = 2
 
 ranks : {one other : Noted} → one ≡ other → rank one.receipt ≡ rank other.receipt
 ranks e = ap (λ (n : Noted). rank n.receipt) e

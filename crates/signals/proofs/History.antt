@@ -14,7 +14,7 @@ use Rattle.train_telegram.specs.States.{states_of, silent}
 use Rattle.train_telegram.specs.declared.states.States.{States}
 use Rattle.train_telegram.specs.declared.Reading.{Reading}
 use Rattle.train_telegram.proofs.Showing.{states-show}
-use Rattle.train_telegram.proofs.Refusals.{read-refused, read-accepted}
+use Rattle.train_telegram.proofs.Refusals.{read_refused, read-accepted}
 use Rattle.signals.specs.Answers.{Updating}
 use Rattle.signals.specs.Signals.{signals_with, fresh_signals, missed_by, update_of}
 use Rattle.signals.specs.Histories.{Call, is_miss, misses_in, last_said, standing, LastAccepted}
@@ -35,7 +35,7 @@ miss_misses signals true telegram e =
     (λ z. absurd (clash e (rw z refl)))
     (λ z.
     let number : ℕ = train_refusal telegram in
-    let r : (train_reading telegram).verdict ≡ _ = ap (λ (x : Reading). x.verdict) (read-refused telegram number refl (eqb-false number 0 z)) in
+    let r : (train_reading telegram).verdict ≡ _ = ap (λ (x : Reading). x.verdict) (read_refused telegram number refl (eqb-false number 0 z)) in
     ap (λ (u : Updating). u.signals) (update-refused signals telegram (train_reading telegram) refl number r))
 
 hit_says : (signals : Signals) (present : Bool) (telegram : List ℕ) → is_miss (present, telegram) ≡ false → (update_of signals present telegram).signals ≡ signals_with (states_of telegram) 0

@@ -8,9 +8,9 @@ use Rattle.signals.specs.declared.Updated.{Updated}
 
 -- S-13, S-14: the telegram was accepted; there was none, which is a miss and no refusal; or it was refused
 pub data Receipt : Type 0 where
-  was-accepted : Receipt
-  was-missed : Receipt
-  was_refused_lem : Receipt
+  receipt_accepted : Receipt
+  receipt_missed : Receipt
+  receipt_refused : Receipt
 
 -- C-12: which of the three it was, and the number of the refusal, 0 where nothing is refused
 pub record Noted : Type 0 where
@@ -18,13 +18,13 @@ pub record Noted : Type 0 where
   pub number : ℕ
 
 abbrev pub acceptance : Noted
-acceptance = record { receipt = was-accepted; number = 0 }
+acceptance = record { receipt = receipt_accepted; number = 0 }
 
 abbrev pub absence : Noted
-absence = record { receipt = was-missed; number = 0 }
+absence = record { receipt = receipt_missed; number = 0 }
 
 abbrev pub refusal_under : ℕ → Noted
-refusal_under number = record { receipt = was_refused_lem; number = number }
+refusal_under number = record { receipt = receipt_refused; number = number }
 
 -- C-12: what each case of the code's enum tells
 abbrev pub noted_of : Answer → Noted

@@ -13,13 +13,13 @@ use Rattle.state_words.proofs.Length.{cab-short, brake-short, isolation-short, t
 use Rattle.train_telegram.specs.States.{system_with}
 use Rattle.train_codes.specs.declared.Isolation.TheVariants as Isolation'
 use Rattle.train_telegram.specs.declared.states.States.{States}
-use Rattle.signals.specs.Answers.{Receipt, was-accepted, was-missed, was_refused_lem, Updating}
+use Rattle.signals.specs.Answers.{Receipt, receipt_accepted, receipt_missed, receipt_refused, Updating}
 use Rattle.signals_output.specs.Lines.{receipt_words, answer_words, misses_word, national_word, state_words, line_of}
 
 answer-short : (receipt : Receipt) (number : ℕ) → number < 256 → length (receipt_words receipt number) ≤ 11
-answer-short was-accepted number p = omega arith
-answer-short was-missed number p = omega arith
-answer-short was_refused_lem number p = omega (arith, length-append refused_word (decimal number), decimal_byte number p)
+answer-short receipt_accepted number p = omega arith
+answer-short receipt_missed number p = omega arith
+answer-short receipt_refused number p = omega (arith, length-append refused_word (decimal number), decimal_byte number p)
 
 states-short : (states : States) → length (state_words states) ≤ 237
 unfolding state_words

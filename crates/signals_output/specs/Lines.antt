@@ -9,7 +9,7 @@ use Rattle.train_telegram.specs.States.{system_with}
 use Rattle.train_codes.specs.declared.Isolation.TheVariants as Isolation'
 use Rattle.train_telegram.specs.declared.states.National.{National}
 use Rattle.train_telegram.specs.declared.states.States.{States}
-use Rattle.signals.specs.Answers.{Receipt, was-accepted, was-missed, was_refused_lem, Noted, Updating}
+use Rattle.signals.specs.Answers.{Receipt, receipt_accepted, receipt_missed, receipt_refused, Noted, Updating}
 
 -- S-13, S-14: the words of an answer
 abbrev pub accepted_word : List ℕ
@@ -22,9 +22,9 @@ missed_word = ascii "missed"
 
 -- S-13, S-14: the answer: `accepted`, `missed` or `refused N`
 abbrev pub receipt_words : Receipt → ℕ → List ℕ
-receipt_words was-accepted number = accepted_word
-receipt_words was-missed number = missed_word
-receipt_words was_refused_lem number = refused_word ++ decimal number
+receipt_words receipt_accepted number = accepted_word
+receipt_words receipt_missed number = missed_word
+receipt_words receipt_refused number = refused_word ++ decimal number
 
 abbrev pub answer_words : Noted → List ℕ
 answer_words noted = receipt_words noted.receipt noted.number

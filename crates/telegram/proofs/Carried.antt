@@ -38,9 +38,9 @@ module _ (table : List Slot) (held : (i : ℕ) → MayHold (get_or table i empty
   unfolding four_of
   table_sendable packet step low high small =
       record {
-        packet-from = low;
-        packet-to = high;
-        step-below = small;
+        packet_from = low;
+        packet_to = high;
+        step_below = small;
         four = refl;
         held = four-each (λ n x. MayHold x) (carried_slot table packet) (λ n below. held (first_slot packet + n)) (λ n past. refl);
         distinct = λ i j p q positive same.

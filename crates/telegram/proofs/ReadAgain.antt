@@ -63,7 +63,7 @@ module _ (t : Telegram) (s : Sendable t) where
   sent-silent = (
     rw (eq-eqb (length (bytes_of t)) 26 (length-bytes t)) refl,
     (
-      rw (packet-on t s.packet-to) (le-ltb t.packet 3 s.packet-from),
+      rw (packet-on t s.packet_to) (le-ltb t.packet 3 s.packet_from),
       silent-all (place_rows (bytes_of t)) 0 4 (λ k low below. places-silent k (omega arith)),
     ),
   )
@@ -76,7 +76,7 @@ module _ (t : Telegram) (s : Sendable t) where
   meant =
       let slots : slot_at (bytes_of t) 0 ∷ slot_at (bytes_of t) 1 ∷ slot_at (bytes_of t) 2 ∷ slot_at (bytes_of t) 3 ∷ [] ≡ t.slots =
       rw (slot_on_lem 0 (omega arith), slot_on_lem 1 (omega arith), slot_on_lem 2 (omega arith), slot_on_lem 3 (omega arith)) (four-list t.slots s.four) in
-      λ i. record { packet = packet-on t s.packet-to i; step = step-on t s.step-below i; slots = slots i }
+      λ i. record { packet = packet-on t s.packet_to i; step = step-on t s.step_below i; slots = slots i }
 
   -- M-2d
   pub read_again : read_of (bytes_of t) ≡ record { verdict = Accepted; telegram = t }

@@ -41,9 +41,9 @@ place-above bytes k coded same =
 
 -- the two ways of a reading: refused, with the blank telegram beside it, or accepted
 module _ (bytes : List ℕ) (number : ℕ) (same : number ≡ ladder 0 (read_rows bytes)) where
-  pub read-refused : (number ≡ 0 → ⊥) → read_of bytes ≡ record { verdict = Refused number; telegram = blank_telegram }
+  pub read_refused : (number ≡ 0 → ⊥) → read_of bytes ≡ record { verdict = Refused number; telegram = blank_telegram }
   unfolding read_of
-  read-refused n = rw (← same, verdict-refused number n, ne_eqb number 0 n) refl
+  read_refused n = rw (← same, verdict-refused number n, ne_eqb number 0 n) refl
 
   pub read-accepted : number ≡ 0 → read_of bytes ≡ record { verdict = Accepted; telegram = telegram_of bytes }
   unfolding read_of

@@ -19,7 +19,7 @@ use Rattle.condition.proofs.Coding.{read_held}
 use Rattle.telegram.specs.Telegrams.{packet_in, place_start, coded_at, taken_before, taken_row, place_rows, read_rows, slot_at, telegram_of, read_of}
 use Rattle.telegram.specs.Sendable.{slot_on, Sendable}
 use Rattle.telegram.proofs.Four.{four-each}
-use Rattle.telegram.proofs.Rows.{read-numbered, read-refused, read-accepted}
+use Rattle.telegram.proofs.Rows.{read-numbered, read_refused, read-accepted}
 
 -- the slot of place k of what 26 bytes mean
 pub slot-meant : (bytes : List ℕ) (k : ℕ) → k < 4 → slot_on (telegram_of bytes) k ≡ slot_at bytes k
@@ -70,7 +70,7 @@ never_invalid bytes k =
     subst (λ r. MayHold (slot_on r.telegram k)) (sym (read-accepted bytes (ladder 0 (read_rows bytes)) refl z))
     (held-read bytes ((passed-exactly (read_rows bytes) (read-numbered bytes)).0 z) k))
     (λ e.
-    subst (λ r. MayHold (slot_on r.telegram k)) (sym (read-refused bytes (ladder 0 (read_rows bytes)) refl (eqb-false (ladder 0 (read_rows bytes)) 0 e)))
+    subst (λ r. MayHold (slot_on r.telegram k)) (sym (read_refused bytes (ladder 0 (read_rows bytes)) refl (eqb-false (ladder 0 (read_rows bytes)) 0 e)))
     (four-each (λ n x. MayHold x) (λ n. empty_slot) (λ n below. refl) (λ n past. refl) k))
 
 -- what is accepted is what the bytes mean
@@ -84,9 +84,9 @@ pub read_sendable : (bytes : List ℕ) → Bytes bytes → NoneHolds (read_rows 
 unfolding telegram_of
 read_sendable bytes fits s =
     record {
-      packet-from = packet-read bytes s;
-      packet-to = omega (arith, fits 0, fits 1);
-      step-below = omega arith;
+      packet_from = packet-read bytes s;
+      packet_to = omega (arith, fits 0, fits 1);
+      step_below = omega arith;
       four = refl;
       held = held-read bytes s;
       distinct = distinct-read bytes s;

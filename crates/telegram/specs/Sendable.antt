@@ -14,9 +14,9 @@ slot_on t k = get_or t.slots k empty_slot
 
 -- T-01 to T-03, R-14: packet 3 to 7, a step number of thirteen bits, four slots as a desk or a reader holds them, no number twice
 pub record Sendable (t : Telegram) : Type 0 where
-  pub packet-from : 3 ≤ t.packet
-  pub packet-to : t.packet ≤ 7
-  pub step-below : t.step < steps
+  pub packet_from : 3 ≤ t.packet
+  pub packet_to : t.packet ≤ 7
+  pub step_below : t.step < steps
   pub four : length t.slots ≡ 4
   pub held : (k : ℕ) → MayHold (slot_on t k)
   pub distinct : (i j : ℕ) → i < j → j < 4 → 0 < (slot_on t i).number → (slot_on t i).number ≡ (slot_on t j).number → ⊥

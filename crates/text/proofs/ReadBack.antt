@@ -77,9 +77,9 @@ decimal-is n =
     on (ltb n 1)
     (λ e.
     let one : length (decimal n) ≡ 1 = ap length (decimal-one n (omega (arith, ltb-true n 1 e))) in
-    record { some = omega arith; digits-only = ascii-below n n (omega arith); value = decimal-value n; leading = λ p. absurd (omega arith) })
+    record { some = omega arith; digits_only = ascii-below n n (omega arith); value = decimal-value n; leading = λ p. absurd (omega arith) })
     (λ e.
     given (decimal_leads n (ltb-false n 1 e))
     (λ (c, low, high, (more, same)).
     let long : length (decimal n) ≡ length more + 1 = ap length same ∙ omega arith in
-    record { some = omega arith; digits-only = ascii-below n n (omega arith); value = decimal-value n; leading = λ p. subst (λ text. code "1" ≤ get_or text 0 0) (sym same) low }))
+    record { some = omega arith; digits_only = ascii-below n n (omega arith); value = decimal-value n; leading = λ p. subst (λ text. code "1" ≤ get_or text 0 0) (sym same) low }))

@@ -26,6 +26,6 @@ value_from so_far (byte ∷ more) = value_from (so_far * 10 + (byte - code "0"))
 -- A-35: a text is a number in decimal: digits in ASCII that say the number, and the first is a zero only where it is the only one
 pub record IsDecimal (number : ℕ) (text : List ℕ) : Type 0 where
   pub some : 1 ≤ length text
-  pub digits-only : (i : ℕ) → i < length text → (code "0" ≤ get_or text i 0) × (get_or text i 0 ≤ code "9")
+  pub digits_only : (i : ℕ) → i < length text → (code "0" ≤ get_or text i 0) × (get_or text i 0 ≤ code "9")
   pub value : value_from 0 text ≡ number
   pub leading : 2 ≤ length text → code "1" ≤ get_or text 0 0

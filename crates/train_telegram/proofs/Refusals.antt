@@ -15,9 +15,9 @@ use Rattle.train_telegram.specs.declared.Reading.{Reading}
 
 -- the two ways of a reading: refused, with every signal silent beside it, or accepted
 module _ (t : List ℕ) (number : ℕ) (same : number ≡ train_refusal t) where
-  pub read-refused : (number ≡ 0 → ⊥) → ◌≡◌ {A = Reading} (train_reading t) (record { verdict = Refused number; states = silent })
+  pub read_refused : (number ≡ 0 → ⊥) → ◌≡◌ {A = Reading} (train_reading t) (record { verdict = Refused number; states = silent })
   unfolding train_reading
-  read-refused n = rw (← same, verdict-refused number n, ne_eqb number 0 n) refl
+  read_refused n = rw (← same, verdict-refused number n, ne_eqb number 0 n) refl
 
   pub read-accepted : number ≡ 0 → ◌≡◌ {A = Reading} (train_reading t) (record { verdict = Accepted; states = states_of t })
   unfolding train_reading

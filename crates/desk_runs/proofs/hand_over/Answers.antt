@@ -10,7 +10,7 @@ use borrow.Author.Rules.{part_to_end}
 use Rattle.frames.specs.Frames.{no_bare}
 use Rattle.frames.proofs.Splitting.{size_bounds}
 use Rattle.frames.proofs.Pouring.{pouring_start, pouring_more, pouring_end, pouring_last, pouring_as, pouring_room}
-use Rattle.desk.specs.Desks.{Made, made-fresh, called}
+use Rattle.desk.specs.Desks.{Made, made_fresh, called}
 use Rattle.desk_runs.specs.Runs.{lists_of, desk_from, tables_with, refused_lines_with, run_tables, refused_lines, desk_at_end}
 use Rattle.desk_runs.proofs.Left.{left-more, left-none, left_end}
 use Rattle.desk_runs.proofs.Outputs.{tables_more, lines_more, tables-none, lines-short, tables_end, lines_end}
@@ -21,7 +21,7 @@ unfolding run_tables refused_lines desk_at_end
 loop-rest-init c =
     let desk = c.fresh-desk.ensures in
     let input : List ℕ = c.args.input.now in (
-      subst⁻¹ Made desk made-fresh,
+      subst⁻¹ Made desk made_fresh,
       search rules,
       pouring_as (ap (λ d. tables_with d input) (sym desk)) pouring_start,
       pouring_as (ap (λ d. refused_lines_with d 0 input) (sym desk)) pouring_start,

@@ -8,7 +8,6 @@ use Rattle.desk_runs.specs.Runs.{table_for, line_for}
 use Rattle.desk_runs.proofs.take.Goals as goal
 
 table-of : {answer said : Answer} {verdict : Verdict} → answer ≡ said → answer.verdict ≡ verdict → table_for said.verdict said.desk ≡ table_for verdict answer.desk
-
 table-of {answer} e v = sym (ap (λ (a : Answer). table_for a.verdict a.desk) e) ∙ ap (λ (w : Verdict). table_for w answer.desk) v
 
 line_of : {answer said : Answer} {verdict : Verdict} (list : ℕ) → answer ≡ said → answer.verdict ≡ verdict → line_for said.verdict list ≡ line_for verdict list

@@ -20,16 +20,14 @@ returns-then-at-n c =
 
 pub returns-then-place-eq0 : goal.returns-then-place-eq0
 unfolding kept_among ended_entry
-returns-then-place-eq0 c =
-    (
-      simp (sym c.listed-at.ensures, le-ltb _ _ c.if-at-n.false, c.free.ensures),
-      simp (eq-eqb _ _ c.if-place-eq0.true, c.none-then-place-eq0.ensures),
-    )
+returns-then-place-eq0 c = (
+  simp (sym c.listed-at.ensures, le-ltb _ _ c.if-at-n.false, c.free.ensures),
+  simp (eq-eqb _ _ c.if-place-eq0.true, c.none-then-place-eq0.ensures),
+)
 
 pub returns : goal.returns
 unfolding kept_among ended_entry
-returns c =
-    (
-      simp (sym c.listed-at.ensures, le-ltb _ _ c.if-at-n.false, c.free-2.ensures),
-      simp (sym c.listed-at.ensures, le-ltb _ _ c.if-at-n.false, ne_eqb _ _ c.if-place-eq0.false),
-    )
+returns c = (
+  simp (sym c.listed-at.ensures, le-ltb _ _ c.if-at-n.false, c.free-2.ensures),
+  simp (sym c.listed-at.ensures, le-ltb _ _ c.if-at-n.false, ne_eqb _ _ c.if-place-eq0.false),
+)

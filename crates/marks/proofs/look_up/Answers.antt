@@ -18,7 +18,7 @@ pub bounds-marks-i : goal.bounds-marks-i
 bounds-marks-i c =
     let l = c.loop-k in
     let p : l.k < c.args.count = search rules in
-    omega (arith, l.invariant.0.marks-long, (l.invariant.0.other l.k p).0)
+    omega (arith, l.invariant.0.marks_long, (l.invariant.0.other l.k p).0)
 
 pub loop-k-preserved : goal.loop-k-preserved
 loop-k-preserved c =

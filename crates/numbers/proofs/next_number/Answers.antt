@@ -14,7 +14,8 @@ use Rattle.resting.specs.Rests.{is_resting}
 use Rattle.numbers.specs.Numbers.{number_after, next_number}
 use Rattle.resting.specs.declared.Ended.{Ended}
 use Rattle.resting.proofs.Rested.{covers-resting}
-use Rattle.numbers.proofs.Search.{others-few, number-first}
+use Rattle.numbers.proofs.Search.{number-first}
+use Rattle.numbers.proofs.Permitted.{others-few}
 use Rattle.numbers.proofs.next_number.Invariants.{Passed, permits}
 use Rattle.numbers.proofs.next_number.Goals as goal
 

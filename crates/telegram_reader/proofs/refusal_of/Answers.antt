@@ -32,11 +32,10 @@ returns-then-refusal-ne0 c =
     e ∙ sym (c.loop-k.invariant.1 ∙ first_hit (judged c.args.bytes.now) 4 c.loop-k.k (search rules) (λ z. c.if-refusal-ne0.true (e ∙ z)))
 
 pub loop-k-preserved : goal.loop-k-preserved
-loop-k-preserved c =
-    (
-      search rules,
-      c.loop-k.invariant.1 ∙ first-go (judged c.args.bytes.now) 4 c.loop-k.k (search rules) (sym c.place_refusal-refusal.ensures ∙ c.if-refusal-ne0.false),
-    )
+loop-k-preserved c = (
+  search rules,
+  c.loop-k.invariant.1 ∙ first-go (judged c.args.bytes.now) 4 c.loop-k.k (search rules) (sym c.place_refusal-refusal.ensures ∙ c.if-refusal-ne0.false),
+)
 
 pub returns : goal.returns
 returns c = let l = c.loop-k in sym (l.invariant.1 ∙ scan-end _ _ _ 4 l.k (search rules))

@@ -17,8 +17,7 @@ loop-k-init c =
 pub loop-k-preserved : goal.loop-k-preserved
 unfolding six_of
 loop-k-preserved c =
-    let l = c.loop-k in
-    (
+    let l = c.loop-k in (
       search rules,
       omega (arith, c.put_slot-at.ensures.past, l.invariant.1),
       put-length c.put_slot-at.ensures ∙ l.invariant.2,
