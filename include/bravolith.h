@@ -14,7 +14,7 @@
  * put. An answer that is less than the buffer's length says that all of the output is there; where it is the buffer's whole length,
  * some of it may be missing: lend a longer buffer, or one of the length that is always enough, and of a listing ask
  * bravolith_list_length. The lengths that are always enough are proved. Each call takes a whole input and begins with a fresh desk,
- * listener or record: no function keeps anything between two calls, and none fails. Each takes less than 10 KB of stack, and
+ * listener or record: no function keeps anything between two calls, and none fails. Each takes less than 12 KB of stack, and
  * bravolith_list_length some 20 KB, as measured.
  */
 #ifndef BRAVOLITH_H
