@@ -5,7 +5,7 @@
 -- One of them spelt out. The contract of `telegram_reader::read(bytes)` says that the reading is `read_of bytes`. So `OfRead Such` says: for
 -- all bytes, however many, and for every reading that is equal to `read_of bytes`, `Such bytes reading`. That is
 --
---   (bytes : List ℕ) → Such bytes (readOf bytes)
+--   (bytes : List ℕ) → Such bytes (read_of bytes)
 --
 -- and proofs/Functions.antt `read-says` proves that the one is so exactly when the other is. Demand 1 takes it with "the reading's verdict
 -- is a refusal under this number exactly when the row of this number holds and no earlier one does".

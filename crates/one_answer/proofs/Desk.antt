@@ -53,8 +53,8 @@ places-place_of κs handed answer other lasts others p q = (agree p q, refl)
 
 -- ---- orders
 
-pub orders_refusal-of : OneAnswer orders-contracts.refusal_of.ended orders.refusal_of.Reads.Learnt
-orders_refusal-of κs handed answer other lasts others p q = (agree p q, refl)
+pub orders-refusal_of : OneAnswer orders-contracts.refusal_of.ended orders.refusal_of.Reads.Learnt
+orders-refusal_of κs handed answer other lasts others p q = (agree p q, refl)
 
 -- ---- resting
 

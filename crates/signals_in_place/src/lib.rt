@@ -17,8 +17,7 @@ pub fn update(held: &mut Signals, present: bool, telegram: &[u8]) -> Answer
     next.answer
 }
 
-// The same for a host that has the record in a variable of its own: it is lent for one call. Programs use this one, since a function
-// that lends a record needs a proof by hand, and here it is done once.
+// The same for a host that has the record in a variable of its own: it is lent for one call. Programs use this one.
 pub fn lend_and_update(signals: Signals, present: bool, telegram: &[u8]) -> Updated
     ensures { updating_of result ≡ update_of signals present telegram.now }
 {
