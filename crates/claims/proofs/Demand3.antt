@@ -14,7 +14,8 @@ use Rattle.listener.specs.Listeners.{carries}
 use Rattle.listener.proofs.Fresh.{zeros-fresh}
 use Rattle.claims.specs.Hearings.{Item}
 use Rattle.claims.specs.Demand3.{fleet_binding, LostOrRepeated, TheFunctions, Demand3}
-use Rattle.claims.proofs.Ends.{ReadsBack, Claim, claimed}
+use Rattle.claims.proofs.Claimed.{Claim, claimed}
+use Rattle.claims.proofs.Ends.{ReadsBack}
 use Rattle.claims.proofs.History.{calls_made}
 use Rattle.claims.proofs.Regular.{regular}
 

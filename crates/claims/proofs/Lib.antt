@@ -1,4 +1,5 @@
 pub mod Arriving
+pub mod Claimed
 pub mod Demand1
 pub mod Demand2
 pub mod Demand3
