@@ -11,7 +11,7 @@ use Rattle.train_telegram.proofs as train-telegram
 use Rattle.train_telegram.specs.contracts as train-telegram-contracts
 use Rattle.signals.proofs as signals
 use Rattle.signals.specs.contracts as signals-contracts
-use Rattle.signals.proofs.Answers.{updating_apart}
+use Rattle.signals.proofs.Answers.{noted-apart, updating_apart}
 use Rattle.signals_in_place.proofs as signals-in-place
 use Rattle.signals_in_place.specs.contracts as signals-in-place-contracts
 use Rattle.signals_output.proofs as signals-output
@@ -53,6 +53,11 @@ signals-update κs handed answer other lasts others p q = (updating_apart answer
 
 pub signals_in_place-update : Asserted.OneAnswerLent signals-in-place-contracts.update.ended (λ M 𝓤 𝓛. signals-in-place-contracts.update.clauses 𝓛)
 signals_in_place-update = demand1.train_lent.defined
+
+-- and so does what a caller learns of it, in plain facts
+pub signals_in_place-update_learnt : OneAnswer signals-in-place-contracts.update.ended signals-in-place.update.Reads.Learnt
+signals_in_place-update_learnt κs handed answer other lasts others p q =
+    (noted-apart answer other (agree p.0 q.0), ap (λ after. (after, (tt, (tt, tt)))) (agree p.1 q.1))
 
 pub signals_in_place-lend_and_update : OneAnswer signals-in-place-contracts.lend_and_update.ended signals-in-place.lend_and_update.Reads.Learnt
 signals_in_place-lend_and_update κs handed answer other lasts others p q = (updating_apart answer other (agree p q), refl)
