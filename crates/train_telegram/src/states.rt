@@ -7,7 +7,7 @@ use train_codes::{Brake, Cab, Isolation, Traction};
 // How many national systems there are.
 const SYSTEMS: usize = 16;
 
-// One national system. A field cannot be an array of enums, so that each stands in a struct.
+// One national system.
 #[derive(Clone, Copy)]
 pub struct National {
     pub isolation: Isolation,
