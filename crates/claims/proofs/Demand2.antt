@@ -9,8 +9,7 @@ use lib.ListN.{length, get_or}
 use Rattle.kit.specs.Bytes.{Bytes, bit}
 use Rattle.kit.proofs.Cases.{given}
 use Rattle.wire.specs.Distances.{InRange, distance_word}
-use Rattle.wire.specs.declared.verdicts.Verdict.TheVariants.{Accepted}
-use Rattle.wire.specs.Verdicts.{ruling_of}
+use Rattle.wire.specs.Verdicts.{Accepted, ruling_of}
 use Rattle.wire.proofs.Answers.{ruling_apart}
 use Rattle.wire.proofs.Metres.{word-said}
 use Rattle.condition.specs.Slots.{MayHold, settled, coded_of}

@@ -21,7 +21,7 @@ use Rattle.std.specs.Prelude.{ℕ, Bool, List}
 use Rattle.kit.specs.Asserted as Asserted
 use Rattle.kit.specs.Contracts.{Promised}
 use Rattle.wire.specs.declared.distances.Distance.{Distance}
-use Rattle.wire.specs.declared.verdicts.Verdict.{Verdict}
+use Rattle.wire.specs.Verdicts.{Verdict}
 use Rattle.condition.specs.declared.slots.Slot.{Slot}
 use Rattle.telegram.specs.declared.Reading.{Reading}
 use Rattle.telegram.specs.declared.Telegram.{Telegram}

@@ -11,7 +11,7 @@ use Rattle.kit.proofs.Ladder.{above_append, numbered_append, numbered-each, pass
 use Rattle.condition.specs.Slots.{slot_rows}
 use Rattle.condition.specs.declared.slots.Coded.{Coded}
 use Rattle.condition.proofs.Coding.{slot-numbered}
-use Rattle.wire.specs.declared.verdicts.Verdict.TheVariants.{Accepted, Refused}
+use Rattle.wire.specs.Verdicts.{Accepted, Refused}
 use Rattle.wire.proofs.Answers.{verdict-accepted, verdict-refused}
 use Rattle.telegram.specs.Telegrams.{coded_at, taken_row, place_rows, read_rows, telegram_of, blank_telegram, read_of, bytes_of, write_rows, write_verdict, written}
 use Rattle.telegram.specs.declared.Telegram.{Telegram}

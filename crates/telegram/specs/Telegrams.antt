@@ -6,10 +6,9 @@ use Rattle.kit.specs.Ladder.{ladder}
 use Rattle.kit.specs.Loops.{any}
 use Rattle.condition.specs.Slots.{empty_slot, slot_rows, slot_in, coded_of, six_of}
 use Rattle.wire.specs.Steps.{steps}
-use Rattle.wire.specs.Verdicts.{verdict_of}
+use Rattle.wire.specs.Verdicts.{Verdict, verdict_of}
 use Rattle.condition.specs.declared.slots.Coded.{Coded}
 use Rattle.condition.specs.declared.slots.Slot.{Slot}
-use Rattle.wire.specs.declared.verdicts.Verdict.{Verdict}
 use Rattle.telegram.specs.declared.Reading.{Reading}
 use Rattle.telegram.specs.declared.Telegram.{Telegram}
 
