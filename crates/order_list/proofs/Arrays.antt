@@ -1,0 +1,25 @@
+-- An array that a closure made, where the closure stays as it is from call to call: what each element is.
+use Prim.Native.Nat.{ℕ, zero, suc, ◌+◌, ◌<◌, ◌≤◌}
+use mathlib.Core.Path.{◌≡◌, ◌∙◌, subst}
+use mathlib.Core.List.{List}
+use lib.Dec.{eqb}
+use lib.ListN.{get_or}
+use native.Mathlib.Omega.{arith}
+use borrow.Author.Tests.{eqb-true, eqb-false}
+use denote.Param.Members.{Mut, Called}
+use Rattle.std.specs.Array.{IsFromFnResult, IsFromFnResultFrom}
+use Rattle.kit.proofs.Cases.{on}
+
+-- `array::from_fn`
+module _ {F B : Type 0} (g : Mut F (ℕ × Unit {0}) B) (f : F) (of : ℕ → B) (m : ℕ)
+    (tells : (i : ℕ) (y : B) (q : F) → i < m → Called g f (i, tt) y q → (q ≡ f) × (y ≡ of i)) where
+  from : (ys : List B) (d : B) (i n j : ℕ) → i + n ≤ m → IsFromFnResultFrom g f ys i n → i ≤ j → j < i + n → get_or ys j d ≡ of j
+  from ys d i zero j all made p r = absurd (omega arith)
+  from ys d i (suc n) j all (q, y, (here, at), called, rest) p r =
+      let told : (q ≡ f) × (y ≡ of i) = tells i y q (omega arith) called in
+      on (eqb i j)
+      (λ e. subst (λ k. get_or ys k d ≡ of k) (eqb-true i j e) (at d ∙ told.1))
+      (λ e. from ys d (i + 1) n j (omega arith) (subst (λ s. IsFromFnResultFrom g s ys (i + 1) n) told.0 rest) (omega (arith, eqb-false i j e)) (omega arith))
+
+  pub made-at : (ys : List B) (d : B) (j : ℕ) → IsFromFnResult g f ys m → j < m → get_or ys j d ≡ of j
+  made-at ys d j made p = from ys d 0 m j (omega arith) made.each (omega arith) (omega arith)
