@@ -3,10 +3,12 @@ use Prim.Native.Nat.{ℕ, ◌<◌, ◌≤◌}
 use mathlib.Core.Path.{◌≡◌, sym, subst}
 use mathlib.Core.Bool.{Bool, true, false}
 use mathlib.Core.List.{List}
+use lib.Dec.{ltb}
 use lib.ListN.{length}
 use native.Mathlib.Omega.{arith}
+use borrow.Author.Tests.{ltb-true, ltb-false}
 use Rattle.kit.specs.Member.{member}
-use Rattle.kit.proofs.Cases.{given}
+use Rattle.kit.proofs.Cases.{on, clash, given}
 use Rattle.places.specs.Places.{place_at}
 use Rattle.condition.specs.Slots.{slot_count}
 use Rattle.places.specs.declared.Place.{Place}
@@ -18,6 +20,12 @@ module _ (resting : ℕ → Bool) (kept : List ℕ) (covered : (n : ℕ) → res
     (places : List Place) (twenty : length places ≡ slot_count) (last : ℕ) where
   permitted_exists : (i : ℕ) × (i < 255) × (is_permitted resting places (number_after last i) ≡ true)
   permitted_exists = Search.permitted_exists resting kept covered few places twenty last
+
+  -- a search that has passed k others has not passed all
+  pub others-few : (k : ℕ) → ((j : ℕ) → j < k → is_permitted resting places (number_after last j) ≡ false) → k < 255
+  others-few k before =
+      given permitted_exists
+      (λ (i, p, e). on (ltb i k) (λ t. absurd (clash e (before i (ltb-true i k t)))) (λ t. omega (arith, ltb-false i k t)))
 
   pub search_found : FirstPermitted resting places last (next_number resting places last)
   search_found = given permitted_exists (λ (i, p, e). search_ends resting places last i p e)

@@ -1,11 +1,11 @@
 -- `next_number`: no number before the one in hand is permitted, and of 255 numbers one is, so the loop ends at one.
-use Rattle.std.proofs.Common.{◌≡◌, ℕ, List, length, map, sym, arith, rules, ◌∙◌}
+use Rattle.std.proofs.Common.{◌≡◌, ℕ, length, map, sym, arith, rules, ◌∙◌}
 use lib.ListN.{length-map}
-use Rattle.kit.proofs.Cases.{given, clash}
 use Rattle.resting.specs.Rests.{is_resting}
 use Rattle.resting.specs.declared.Ended.{Ended}
 use Rattle.resting.proofs.Rested.{covers-resting}
-use Rattle.numbers.proofs.Search.{number-first, permitted_exists}
+use Rattle.numbers.proofs.Search.{number-first}
+use Rattle.numbers.proofs.Permitted.{others-few}
 use Rattle.numbers.proofs.next_number.Goals as goal
 
 pub returns-then-is_permitted : goal.returns-then-is_permitted
@@ -18,7 +18,9 @@ returns-then-is_permitted c =
 pub unreachable-requires : goal.unreachable-requires
 unreachable-requires c =
     let a = c.args in
-    let kept : List ℕ = map (λ (e : Ended). e.number) a.ended in
+    let number : Ended → ℕ = λ e. e.number in
     let all : length a.ended ≡ 160 = search rules in
-    given (permitted_exists (is_resting a.rest a.step a.ended) kept (covers-resting a.rest a.step a.ended) (omega (arith, length-map a.ended (λ (e : Ended). e.number), all)) a.places (search rules) a.last)
-    (λ (i, p, permitted). clash permitted (c.loop-others.invariant i (omega (arith, c.loop-others-test.false))))
+    let few =
+    others-few (is_resting a.rest a.step a.ended) (map number a.ended) (covers-resting a.rest a.step a.ended) (omega (arith, length-map a.ended number, all)) a.places
+    (search rules) a.last c.loop-others.others c.loop-others.invariant
+    in omega (arith, few, c.loop-others-test.false)
