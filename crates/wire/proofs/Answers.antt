@@ -5,6 +5,8 @@ use Rattle.kit.specs.Ladder.{ladder, Decides, NoneHolds, Numbered}
 use Rattle.kit.proofs.Cases.{on}
 use Rattle.kit.proofs.Ladder.{refused-exactly, passed-exactly, decides_positive}
 use Rattle.std.specs.Prelude.{Result, Ok, Err}
+use Rattle.std.specs.Result.{IsErrAnd}
+use Rattle.std.proofs.lemmas.Result.{err_from_is_err_and}
 use Rattle.wire.specs.Verdicts.{Ruling, Verdict, Accepted, Refused, ruling_of, number_of, row_number, verdict_of, number_in, verdict_in}
 use Rattle.wire.specs.declared.refusals.Refusal.{Refusal}
 use Rattle.wire.specs.declared.refusals.Refusal.TheVariants as Refusal'
@@ -117,3 +119,12 @@ verdict_by_number (Err refusal) =
 -- an answer with a number is so
 pub answered_with : {A : Type 0} (answer : Result A Refusal) {number : ℕ} → number_in answer ≡ number → verdict_in answer ≡ verdict_of number
 answered_with answer e = verdict_by_number answer ∙ ap verdict_of e
+
+-- what a `?` hands on has the number that came
+pub exit_number : {A : Type 0} (answer : Result A Refusal) (refusal : Refusal) → IsErrAnd answer (λ (own : Refusal). own ≡ refusal)
+    → number_in answer ≡ row_number refusal
+exit_number answer refusal p = let q = err_from_is_err_and answer p in rw (q.1, q.2) refl
+
+-- the number of a row is not 0, whatever it is said to be
+pub number_nonzero : (refusal : Refusal) (number : ℕ) → row_number refusal ≡ number → number ≡ 0 → ⊥
+number_nonzero refusal number same z = let p : 1 ≤ row_number refusal = number-positive refusal in omega arith
