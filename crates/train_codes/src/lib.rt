@@ -49,18 +49,15 @@ pub enum Traction {
 pub fn cab_of(a: bool, b: bool) -> Cab
     ensures { result ≡ cab_of a b }
 {
-    if a {
-        if b {
-            return Cab::Invalid;
-        }
-        return Cab::A;
+    match (a, b) {
+        (false, false) => Cab::None,
+        (true, false) => Cab::A,
+        (false, true) => Cab::B,
+        (true, true) => Cab::Invalid,
     }
-    if b {
-        return Cab::B;
-    }
-    Cab::None
 }
 
+#[tactic(auto, unfolding(crate::specs::Codes::brake_of, kit::specs::Ladder::ladder))]
 pub fn brake_of(number: u8) -> Brake
     ensures { result ≡ brake_of number }
 {
@@ -77,14 +74,9 @@ pub fn brake_of(number: u8) -> Brake
 pub fn isolation_of(isolated: bool, inverse: bool) -> Isolation
     ensures { result ≡ isolation_of isolated inverse }
 {
-    if isolated {
-        if inverse {
-            return Isolation::Invalid;
-        }
-        return Isolation::Isolated;
+    match (isolated, inverse) {
+        (true, false) => Isolation::Isolated,
+        (false, true) => Isolation::NotIsolated,
+        _ => Isolation::Invalid,
     }
-    if inverse {
-        return Isolation::NotIsolated;
-    }
-    Isolation::Invalid
 }
