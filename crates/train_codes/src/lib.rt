@@ -39,7 +39,8 @@ pub enum Isolation {
     Invalid,
 }
 
-// The supported traction systems: a list of bits, bit 1 for system 1 to bit 31 for system 31.
+// The supported traction systems: a list of bits, bit 1 for system 1 to bit 31 for system 31. No Option: silent is a state that is shown,
+// as it is of each signal above, and not the lack of one.
 #[derive(Clone, Copy)]
 pub enum Traction {
     Silent,
