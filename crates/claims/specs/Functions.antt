@@ -17,13 +17,13 @@
 --
 -- The right sides need no reading for that. They pick, out of what the checker has of a function, what `Such` is about: `ended` is what
 -- the function is handed and what it gives, `Learnt` its contract, `κs` for how long each thing is lent, `lasts` the last values.
+use Rattle.telegram.specs.Telegrams.{Reading}
 use Rattle.std.specs.Prelude.{ℕ, Bool, List}
 use Rattle.kit.specs.Asserted as Asserted
 use Rattle.kit.specs.Contracts.{Promised}
 use Rattle.wire.specs.declared.distances.Distance.{Distance}
-use Rattle.wire.specs.declared.verdicts.Verdict.{Verdict}
+use Rattle.wire.specs.Verdicts.{Verdict}
 use Rattle.condition.specs.declared.slots.Slot.{Slot}
-use Rattle.telegram.specs.declared.Reading.{Reading}
 use Rattle.telegram.specs.declared.Telegram.{Telegram}
 use Rattle.desk.specs.declared.Answer.{Answer}
 use Rattle.desk.specs.declared.Desk.{Desk}

@@ -1,7 +1,6 @@
 -- The record of signals: document 01, "Signals from the train", its last paragraph, sentence by sentence.
 use Rattle.std.specs.Prelude.{ℕ, ◌+◌, min, Bool, true, false, cond, List, ltb}
-use Rattle.wire.specs.declared.verdicts.Verdict.{Verdict}
-use Rattle.wire.specs.declared.verdicts.Verdict.TheVariants.{Accepted, Refused}
+use Rattle.wire.specs.Verdicts.{Verdict, Accepted, Refused}
 use Rattle.train_telegram.specs.States.{silent}
 use Rattle.train_telegram.specs.Readings.{train_reading}
 use Rattle.train_telegram.specs.declared.states.States.{States}

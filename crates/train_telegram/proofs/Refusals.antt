@@ -5,7 +5,7 @@ use mathlib.Core.Logic.{◌↔◌}
 use mathlib.Core.Path.{◌≡◌, refl, ap}
 use borrow.Author.Tests.{eq-eqb, ne_eqb}
 use Rattle.kit.specs.Ladder.{Decides, NoneHolds}
-use Rattle.wire.specs.declared.verdicts.Verdict.TheVariants.{Accepted, Refused}
+use Rattle.wire.specs.Verdicts.{Accepted, Refused}
 use Rattle.wire.proofs.Answers.{verdict-accepted, verdict-refused, verdict-number, refused_when, accepted_when}
 use Rattle.train_codes.specs.Refusals.{train_rows, train_refusal}
 use Rattle.train_codes.proofs.Rows.{train-numbered}
