@@ -1,11 +1,11 @@
 -- `begin`: the word, and then zeros up to the end.
-use mathlib.Core.Path.{◌≡◌, refl, ap, ◌∙◌}
+use mathlib.Core.Path.{◌≡◌, ap, ◌∙◌}
 use mathlib.Core.List.{◌++◌}
 use lib.ListN.{length, replicate}
 use lib.Seq.{sets}
 use native.Mathlib.Omega.{arith}
 use Rattle.kit.specs.Bytes.{word_bytes}
-use Rattle.memory.specs.Memory.{memory_size, step_from, held_from}
+use Rattle.memory.specs.Memory.{memory_size, step_from}
 use Rattle.memory.proofs.Parts.{two_parts}
 use Rattle.hand.specs.Lent.{begun_in}
 use borrow.Author.Rules.{rules}

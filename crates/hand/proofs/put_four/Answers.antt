@@ -1,7 +1,6 @@
 -- `put_four`: each turn puts one slot.
 use Prim.Native.Nat.{◌+◌}
 use mathlib.Core.Path.{refl, ap, ◌∙◌}
-use native.Mathlib.Omega.{arith}
 use Rattle.kit.specs.Loops.{fold}
 use Rattle.kit.proofs.Loops.{fold-turn}
 use Rattle.memory.specs.Memory.{with_slot}

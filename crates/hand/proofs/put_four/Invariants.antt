@@ -1,5 +1,4 @@
 -- `put_four`: each turn puts one slot.
-use Prim.Native.Nat.{◌-◌, ◌≤◌}
 use mathlib.Core.Path.{◌≡◌}
 use Rattle.hand.specs.Lent.{four_in}
 use Rattle.hand.proofs.put_four.Given as goal
