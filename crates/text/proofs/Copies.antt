@@ -14,8 +14,8 @@ use Rattle.kit.proofs.Cases.{on}
 use Rattle.kit.proofs.Put.{poured-none, poured_as, poured-then, poured-length, poured_full}
 
 -- a part written over is a run of stores
-pub part-sets : (l stored : List ℕ) (at count : ℕ) → at + count ≤ length l → length stored ≡ count → put_mid at count l stored ≡ sets l at stored
-part-sets l stored at count room long =
+pub part_sets : (l stored : List ℕ) (at count : ℕ) → at + count ≤ length l → length stored ≡ count → put_mid at count l stored ≡ sets l at stored
+part_sets l stored at count room long =
     let end : at + count ≡ at + length stored = omega arith in
     put_mid-paste at count l stored stored count refl refl (sym long)
     ∙ (ap (λ s. take at l ++ s ++ drop (at + count) l) (take_all count stored (omega arith))
@@ -28,7 +28,7 @@ copied l words stored at end inside reached same =
     let m = put_mid at count l stored in
     let long : length (take count words) ≡ count = length-take-le count words (omega arith) in
     let first : Poured l at (take count words) m end =
-    record { stored = ap (put_mid at count l) same ∙ part-sets l (take count words) at count (omega arith) long; past = omega arith } in
+    record { stored = ap (put_mid at count l) same ∙ part_sets l (take count words) at count (omega arith) long; past = omega arith } in
     let rest : Poured m end (drop count words) m end =
     on (leb (length words) count)
     (λ e.
