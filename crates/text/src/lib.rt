@@ -6,6 +6,11 @@ ghost use Rattle.std.specs.Prelude.{[], ◌∷◌, length, take, ◌+◌, ◌<�
 ghost use Rattle.kit.specs.Put.{Put, Poured};
 ghost use Rattle.text.specs.Decimals.{decimal};
 
+// What stands between words, and what ends a line.
+pub const BLANK: u8 = b' ';
+
+pub const LINE_FEED: u8 = b'\n';
+
 pub fn put_byte(buffer: &mut [u8], at: usize, byte: u8) -> usize
     ensures { Poured buffer.old at (byte ∷ []) buffer.new result }
 {
