@@ -9,10 +9,10 @@ use std::io::Error;
 pub fn asked(rt: &HostRuntime, program: Program) -> Asked {
     let mut asked = Asked::nothing();
     for i in 1..usize::MAX {
-        match with_argument(rt, program, asked, i) {
-            Some(next) => asked = next,
-            None => break,
-        }
+        let Some(next) = with_argument(rt, program, asked, i) else {
+            break;
+        };
+        asked = next;
     }
     asked
 }
@@ -36,7 +36,8 @@ const TOO_LONG: i32 = 36;
 // not understood.
 pub fn answer(rt: &HostRuntime, program: Program, asked: Asked) {
     let mut word = [0u8; 4096];
-    match rt.arg(asked.at, &mut word) {
+    let at = asked.at.unwrap_or(0);
+    match rt.arg(at, &mut word) {
         Ok(n) => say_answer(rt, program, asked, &word[..n]),
         Err(error) => {
             let reason = reason_of(error);
@@ -46,13 +47,13 @@ pub fn answer(rt: &HostRuntime, program: Program, asked: Asked) {
 }
 
 fn say_answer(rt: &HostRuntime, program: Program, asked: Asked, word: &[u8]) {
-    let task = asked.task;
     let mut out = [0u8; 4224];
-    let k = program::put_answer(program, task, word, &mut out, 0);
-    let mut output = Output::Standard;
-    if program::is_complaint(task) {
-        output = Output::Errors;
-    }
+    let k = program::put_answer(program, asked.task, word, &mut out, 0);
+    let output = if program::is_complaint(asked.task) {
+        Output::Errors
+    } else {
+        Output::Standard
+    };
     write(rt, program, output, &out[..k]);
 }
 

@@ -1,9 +1,9 @@
 // Standard output and error output.
-ghost use Rattle.io.specs.Counts.{IsPrefixLen};
-
-use crate::telling::{Tried, is_interrupted, tell_tried};
-use outcomes::Moved;
+use crate::telling::{is_interrupted, tell};
+use outcomes::State;
 use program::{Doing, Program};
+use std::io;
+use std::io::{Error, ErrorKind};
 
 // Which of the two is written to.
 #[derive(Clone, Copy)]
@@ -12,54 +12,40 @@ pub enum Output {
     Errors,
 }
 
-// One write.
-fn write_once(rt: &HostRuntime, output: Output, bytes: &[u8]) -> Tried
-    ensures { IsPrefixLen result.moved.count bytes.now }
-{
-    let answer = match output {
-        Output::Standard => rt.stdout().write_some(bytes),
-        Output::Errors => rt.stderr().write_some(bytes),
-    };
-    match answer {
-        Ok(count) => Tried {
-            moved: Moved {
-                count,
-                state: outcomes::write_of(count, false, false),
-            },
-            reason: None,
-        },
-        Err(error) => Tried {
-            moved: Moved {
-                count: 0,
-                state: outcomes::write_of(0, true, is_interrupted(&error)),
-            },
-            reason: Some(error),
-        },
+// What follows a write.
+fn state_of(tried: &io::Result<usize>) -> State {
+    match tried {
+        Ok(count) => outcomes::write_of(*count, false, false),
+        Err(error) => outcomes::write_of(0, true, is_interrupted(error)),
     }
 }
 
 // Writes all of these bytes and answers true, or stops at the first write that fails, tells it, and answers false.
 pub fn write(rt: &HostRuntime, program: Program, output: Output, bytes: &[u8]) -> bool {
-    let mut done: usize = 0;
+    let mut rest = bytes;
     for _ in 0..u64::MAX {
-        if done >= bytes.len() {
+        if rest.is_empty() {
             return true;
         }
-        let tried = write_once(rt, output, &bytes[done..]);
-        let state = tried.moved.state;
-        if outcomes::is_failed(state) {
-            tell_write(rt, program, output, tried);
+        let tried = match output {
+            Output::Standard => rt.stdout().write_some(rest),
+            Output::Errors => rt.stderr().write_some(rest),
+        };
+        if outcomes::is_failed(state_of(&tried)) {
+            tell_write(rt, program, output, tried.err());
             return false;
         }
-        done += tried.moved.count;
+        rest = &rest[tried.unwrap_or(0)..];
     }
     false
 }
 
-// Tells of a write that failed.
-fn tell_write(rt: &HostRuntime, program: Program, output: Output, tried: Tried) {
-    match output {
-        Output::Standard => tell_tried(rt, program, Doing::Writing, b"", tried),
-        Output::Errors => tell_tried(rt, program, Doing::Telling, b"", tried),
-    }
+// Tells of a write that failed. The system has no reason for one that took nothing.
+fn tell_write(rt: &HostRuntime, program: Program, output: Output, reason: Option<Error>) {
+    let doing = match output {
+        Output::Standard => Doing::Writing,
+        Output::Errors => Doing::Telling,
+    };
+    let reason = reason.unwrap_or(Error::from(ErrorKind::WriteZero));
+    tell(rt, program, doing, b"", &reason);
 }

@@ -1,25 +1,8 @@
 // A call that failed, told on error output.
 ghost use Rattle.std.specs.Prelude.{◌≤◌};
 
-use outcomes::Moved;
 use program::{Doing, Program};
 use std::io::{Error, ErrorKind, Write};
-
-// What a read or a write came to, and the system's reason where it failed.
-#[derive(Clone, Copy)]
-pub struct Tried {
-    pub moved: Moved,
-    pub reason: Option<Error>,
-}
-
-// Tells of a read or a write that failed. The system has no reason for a write that took nothing.
-pub fn tell_tried(rt: &HostRuntime, program: Program, doing: Doing, name: &[u8], tried: Tried) {
-    let reason = match tried.reason {
-        Some(reason) => reason,
-        None => Error::from(ErrorKind::WriteZero),
-    };
-    tell(rt, program, doing, name, &reason);
-}
 
 // A line: the program, what it was doing, and the system's reason.
 pub fn tell(rt: &HostRuntime, program: Program, doing: Doing, name: &[u8], reason: &Error) {
