@@ -17,7 +17,8 @@ use Rattle.std.specs.Result.{IsErrAnd}
 use Rattle.std.proofs.lemmas.Result.{err_from_is_err_and}
 use Rattle.wire.specs.Verdicts.{Accepted, Refused, row_number, verdict_in}
 use Rattle.wire.specs.declared.refusals.Refusal.{Refusal}
-use Rattle.wire.proofs.Answers.{verdict-accepted, verdict-refused, number_nonzero}
+use Rattle.wire.proofs.Answers.{verdict-accepted, verdict-refused}
+use Rattle.wire.proofs.Results.{number_nonzero}
 use Rattle.kit.proofs.Cases.{on, above_zero, at_zero}
 use Rattle.telegram.specs.Telegrams.{coded_at, taken_before, taken_row, place_rows, read_rows, telegram_of, blank_telegram, read_of, reading_in, bytes_of, write_rows, write_verdict, written}
 use Rattle.telegram.specs.declared.Telegram.{Telegram}
