@@ -98,3 +98,7 @@ number_in-apart (Err refusal) (Err other) e = ap Err (number_apart refusal other
 pub verdict_in-apart : (one other : Result Unit Refusal) → verdict_in one ≡ verdict_in other → one ≡ other
 verdict_in-apart one other e =
     number_in-apart one other (verdict-number-apart (number_in one) (number_in other) (sym (verdict_by_number one) ∙ (e ∙ verdict_by_number other)))
+
+-- an answer with the verdict of a number has that number
+pub number_answered : {A : Type 0} (answer : Result A Refusal) (number : ℕ) → verdict_in answer ≡ verdict_of number → number_in answer ≡ number
+number_answered answer number e = verdict-number-apart (number_in answer) number (sym (verdict_by_number answer) ∙ e)
