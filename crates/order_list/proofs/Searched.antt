@@ -3,9 +3,11 @@ use Prim.Native.Nat.{ℕ, ◌<◌, ◌≤◌}
 use mathlib.Core.Path.{◌≡◌, refl}
 use mathlib.Core.Bool.{Bool, true, false}
 use native.Mathlib.Omega.{arith}
-use borrow.Author.Tests.{lt-ltb, le-ltb}
+use borrow.Author.Tests.{lt-ltb, le-ltb, ltb-true, ltb-false}
 use Rattle.std.specs.Prelude.{Option, Some, None, MatchOption}
+use lib.Dec.{ltb}
 use Rattle.kit.specs.Loops.{find}
+use Rattle.kit.proofs.Cases.{on}
 use Rattle.kit.proofs.Loops.{scan-at, scan-none}
 use Rattle.order_list.specs.Lists.{index_below}
 
@@ -18,3 +20,23 @@ searched test n None none =
 searched test n (Some i) (p, q, t, before) =
     let e : find test n ≡ i = scan-at test (λ k. k) n 0 n i (omega arith) (omega arith) t before in
     rw (e, lt-ltb i n q) refl
+
+-- and what an answer tells of the index
+module _ (n i : ℕ) where
+  pub below-some : i < n → index_below n i ≡ Some i
+  below-some p = rw (lt-ltb i n p) refl
+
+  pub below-none : n ≤ i → index_below n i ≡ None
+  below-none p = rw (le-ltb i n p) refl
+
+  pub some-below : (at : ℕ) → Some at ≡ index_below n i → (at ≡ i) × (i < n)
+  some-below at e =
+      on (ltb i n)
+      (λ t. let same : Some at ≡ Some i = rw t at e in (cc, ltb-true i n t))
+      (λ t. let other : ◌≡◌ {A = Option ℕ} (Some at) None = rw t at e in cc)
+
+  pub none-below : None ≡ index_below n i → n ≤ i
+  none-below e =
+      on (ltb i n)
+      (λ t. let other : ◌≡◌ {A = Option ℕ} None (Some i) = rw t at e in cc)
+      (λ t. ltb-false i n t)
