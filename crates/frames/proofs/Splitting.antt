@@ -151,6 +151,10 @@ module _ (bare : ℕ) (input : List ℕ) (size : ℕ) (sized : size ≡ whole_si
     unfolding short_tail
     tail-short line h = ap (λ b. cond b line []) (short_none h)
 
+-- so of a size that the code's answer gives
+pub call_bounds : {size : ℕ} (bare : ℕ) (input : List ℕ) → Some size ≡ size_given (whole_size bare input) → (2 ≤ size) × (size ≤ length input)
+call_bounds {size = size} bare input e = let known = size_some (whole_size bare input) e in size_bounds bare input size known.0 known.1
+
 -- at the end there is no call, and nothing is left
 module _ (bare : ℕ) (input : List ℕ) (end : length input ≡ 0) where
   pub calls_end : calls_of bare input ≡ []
