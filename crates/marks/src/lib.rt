@@ -122,11 +122,7 @@ fn is_there(memory: &[u8; 310], seen: &ByteSet, i: usize) -> bool
 {
     let at = SET + SLOT * i;
     seen.contains(memory[at])
-        && is_known(
-            memory,
-            memory[at],
-            kind_of(memory[at + 1], memory[at + 2]),
-        )
+        && is_known(memory, memory[at], kind_of(memory[at + 1], memory[at + 2]))
 }
 
 // Each of the others is marked if the picture has it.

@@ -1,6 +1,5 @@
 -- `all_there`: the slots are sorted, and where there are others they are looked up.
 use Rattle.marks.proofs.Sorting.{sorted_all}
-use borrow.Author.Rules.{rules}
 use Rattle.marks.proofs.all_there.Goals as goal
 
 pub returns-else-count-gt0 : goal.returns-else-count-gt0

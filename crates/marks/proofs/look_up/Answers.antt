@@ -7,7 +7,6 @@ use native.Mathlib.Omega.{arith}
 use Rattle.condition.specs.Slots.{slot_count}
 use Rattle.marks.specs.Lent.{is_there, Sorted}
 use Rattle.marks.proofs.Sorting.{sorted_next, sorted_all}
-use borrow.Author.Rules.{rules}
 use Rattle.marks.proofs.look_up.Goals as goal
 
 pub loop-i-preserved : goal.loop-i-preserved

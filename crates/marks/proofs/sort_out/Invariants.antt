@@ -1,6 +1,4 @@
 -- `sort_out`: the loop sorts one slot after another.
-use Prim.Native.Nat.{◌-◌, ◌≤◌}
-use Rattle.condition.specs.Slots.{slot_count}
 use Rattle.marks.specs.Lent.{Sorted}
 use Rattle.marks.proofs.sort_out.Given as goal
 
