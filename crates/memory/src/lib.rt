@@ -1,4 +1,5 @@
-// The memory of a listener that a host lends: its slots and marks. specs/Memory.antt says what each byte means.
+// The memory of a listener that a host lends: its slots and marks; specs/Memory.antt says what each byte means. And a set of bytes, in
+// which those who read the slots keep the numbers that they have seen (byte_set).
 #![tactic(auto)]
 
 ghost use Rattle.std.specs.Prelude.{◌+◌, ◌≤◌, ◌≡◌, ◌∷◌, ◌++◌, get_or, false};
@@ -6,6 +7,10 @@ ghost use Rattle.std.proofs.lemmas.List.Edits.{sets};
 ghost use Rattle.kit.specs.Bytes.{word_bytes};
 ghost use Rattle.telegram.specs.Tables.{table_slot};
 ghost use Rattle.memory.specs.Memory.{set_from, body_from, stored_slot, table_at, slot_bytes, table_bytes, with_slot, with_picture, with_marks, picture_in, set_in, marks_in};
+
+mod byte_set;
+
+pub use byte_set::ByteSet;
 
 use condition::{Body, SLOTS, Slot};
 use std::array::from_fn;
