@@ -47,6 +47,16 @@ read-most bytes = by_climb (climb 0 (read_rows bytes))
 pub write-numbered : (packet room : ℕ) → Numbered (write_rows packet room)
 write-numbered packet room = omega arith
 
+pub write-most : (packet room : ℕ) → ladder 0 (write_rows packet room) ≤ 17
+write-most packet room = by_climb (climb 0 (write_rows packet room))
+  where
+    numbers : Numbers (λ number. number ≤ 10) (write_rows packet room)
+    numbers = omega arith
+
+    by_climb : Decides (write_rows packet room) (ladder 0 (write_rows packet room)) ⊎ NoneHolds (write_rows packet room) → ladder 0 (write_rows packet room) ≤ 17
+    by_climb (inl d) = let m : ladder 0 (write_rows packet room) ≤ 10 = decides_such (λ number. number ≤ 10) (write_rows packet room) _ numbers d in omega arith
+    by_climb (inr s) = let z : ladder 0 (write_rows packet room) ≡ 0 = ladder-silent 0 (write_rows packet room) s in omega arith
+
 -- a place's rows: those of the slot by itself, above the one that looks at earlier slots
 pub place-above : (bytes : List ℕ) (k : ℕ) (coded : Coded) → coded ≡ coded_at bytes k
     → ladder 0 (place_rows bytes k) ≡ above (ladder 0 (slot_rows coded)) (ladder 0 (taken_row bytes k coded.number))
