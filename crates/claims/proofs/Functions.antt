@@ -11,8 +11,7 @@ use Rattle.wire.specs.Distances.{distance_of}
 use Rattle.wire.specs.declared.distances.Distance.{Distance}
 use Rattle.wire.specs.Verdicts.{Verdict}
 use Rattle.condition.specs.declared.slots.Slot.{Slot}
-use Rattle.telegram.specs.Telegrams.{read_of, write_verdict, written}
-use Rattle.telegram.specs.declared.Reading.{Reading}
+use Rattle.telegram.specs.Telegrams.{Reading, read_of, write_verdict, written}
 use Rattle.telegram.specs.declared.Telegram.{Telegram}
 use Rattle.desk.specs.Desks.{base_rest, fresh_desk, accept_of, table_of, packet_of}
 use Rattle.desk.specs.declared.Answer.{Answer}

@@ -12,8 +12,7 @@ use Rattle.condition.specs.declared.slots.Slot.{Slot}
 use Rattle.wire.specs.Verdicts.{Verdict, Accepted, Refused}
 use Rattle.telegram.specs.Sendable.{slot_on}
 use Rattle.telegram.specs.Tables.{table_slot, first_slot}
-use Rattle.telegram.specs.Telegrams.{read_of}
-use Rattle.telegram.specs.declared.Reading.{Reading}
+use Rattle.telegram.specs.Telegrams.{Reading, read_of}
 use Rattle.telegram.specs.declared.Telegram.{Telegram}
 use Rattle.hand.specs.Sets.{begun, set_for, joined}
 use Rattle.listener.specs.Listeners.{fresh_listener, taken_by, heard_of, after_reading, hear_of, heard_all}

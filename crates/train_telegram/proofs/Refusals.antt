@@ -9,7 +9,8 @@ use Rattle.kit.specs.Ladder.{Decides, NoneHolds}
 use Rattle.std.specs.Prelude.{Ok, Err}
 use Rattle.wire.specs.declared.refusals.Refusal.{Refusal}
 use Rattle.wire.specs.Verdicts.{row_number, Accepted, Refused}
-use Rattle.wire.proofs.Answers.{number-positive, verdict-accepted, verdict-refused, verdict-number, refused_when, accepted_when}
+use Rattle.wire.proofs.Answers.{verdict-accepted, verdict-refused, verdict-number, refused_when, accepted_when}
+use Rattle.wire.proofs.Results.{number-positive}
 use Rattle.train_codes.specs.Refusals.{train_rows, train_refusal}
 use Rattle.train_codes.proofs.Rows.{train-numbered}
 use Rattle.train_telegram.specs.Readings.{Reading, reading_in, train_reading}
