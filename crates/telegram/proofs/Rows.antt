@@ -7,8 +7,8 @@ use lib.ListN.{length}
 use native.Mathlib.Omega.{arith}
 use borrow.Author.Tests.{eqb-true, eq-eqb, ne_eqb, not-false}
 use Rattle.kit.specs.Each.{each}
-use Rattle.kit.specs.Ladder.{ladder, above, Numbers, Numbered}
-use Rattle.kit.proofs.Ladder.{above_append, numbered_append, numbered-each, passed-exactly}
+use Rattle.kit.specs.Ladder.{ladder, above, Decides, NoneHolds, Numbers, Numbered}
+use Rattle.kit.proofs.Ladder.{climb, ladder-silent, decides_such, above_append, numbered_append, numbered-each, passed-exactly}
 use Rattle.condition.specs.Slots.{slot_rows, slot_refusal}
 use Rattle.condition.specs.declared.slots.Coded.{Coded}
 use Rattle.condition.proofs.Coding.{slot-numbered}
@@ -17,7 +17,8 @@ use Rattle.std.specs.Result.{IsErrAnd}
 use Rattle.std.proofs.lemmas.Result.{err_from_is_err_and}
 use Rattle.wire.specs.Verdicts.{Accepted, Refused, row_number, verdict_in}
 use Rattle.wire.specs.declared.refusals.Refusal.{Refusal}
-use Rattle.wire.proofs.Answers.{verdict-accepted, verdict-refused, number_nonzero}
+use Rattle.wire.proofs.Answers.{verdict-accepted, verdict-refused}
+use Rattle.wire.proofs.Results.{number_nonzero}
 use Rattle.kit.proofs.Cases.{on, above_zero, at_zero}
 use Rattle.telegram.specs.Telegrams.{coded_at, taken_before, taken_row, place_rows, read_rows, telegram_of, blank_telegram, read_of, reading_in, bytes_of, write_rows, write_verdict, written}
 use Rattle.telegram.specs.declared.Telegram.{Telegram}
@@ -35,8 +36,26 @@ pub read-to_14 : (bytes : List ℕ) → Numbers (λ number. number ≤ 14) (read
 unfolding read_rows each slot_rows
 read-to_14 bytes = omega arith
 
+-- and so are those of the rows of document 01's table
+pub read-most : (bytes : List ℕ) → ladder 0 (read_rows bytes) ≤ 17
+read-most bytes = by_climb (climb 0 (read_rows bytes))
+  where
+    by_climb : Decides (read_rows bytes) (ladder 0 (read_rows bytes)) ⊎ NoneHolds (read_rows bytes) → ladder 0 (read_rows bytes) ≤ 17
+    by_climb (inl d) = let m : ladder 0 (read_rows bytes) ≤ 14 = decides_such (λ number. number ≤ 14) (read_rows bytes) _ (read-to_14 bytes) d in omega arith
+    by_climb (inr s) = let z : ladder 0 (read_rows bytes) ≡ 0 = ladder-silent 0 (read_rows bytes) s in omega arith
+
 pub write-numbered : (packet room : ℕ) → Numbered (write_rows packet room)
 write-numbered packet room = omega arith
+
+pub write-most : (packet room : ℕ) → ladder 0 (write_rows packet room) ≤ 17
+write-most packet room = by_climb (climb 0 (write_rows packet room))
+  where
+    numbers : Numbers (λ number. number ≤ 10) (write_rows packet room)
+    numbers = omega arith
+
+    by_climb : Decides (write_rows packet room) (ladder 0 (write_rows packet room)) ⊎ NoneHolds (write_rows packet room) → ladder 0 (write_rows packet room) ≤ 17
+    by_climb (inl d) = let m : ladder 0 (write_rows packet room) ≤ 10 = decides_such (λ number. number ≤ 10) (write_rows packet room) _ numbers d in omega arith
+    by_climb (inr s) = let z : ladder 0 (write_rows packet room) ≡ 0 = ladder-silent 0 (write_rows packet room) s in omega arith
 
 -- a place's rows: those of the slot by itself, above the one that looks at earlier slots
 pub place-above : (bytes : List ℕ) (k : ℕ) (coded : Coded) → coded ≡ coded_at bytes k

@@ -4,12 +4,7 @@ use borrow.Author.Tests.{eqb-false}
 use Rattle.kit.specs.Ladder.{ladder, Decides, NoneHolds, Numbered}
 use Rattle.kit.proofs.Cases.{on}
 use Rattle.kit.proofs.Ladder.{refused-exactly, passed-exactly, decides_positive}
-use Rattle.std.specs.Prelude.{Result, Ok, Err}
-use Rattle.std.specs.Result.{IsErrAnd}
-use Rattle.std.proofs.lemmas.Result.{err_from_is_err_and}
-use Rattle.wire.specs.Verdicts.{Ruling, Verdict, Accepted, Refused, ruling_of, number_of, row_number, verdict_of, number_in, verdict_in}
-use Rattle.wire.specs.declared.refusals.Refusal.{Refusal}
-use Rattle.wire.specs.declared.refusals.Refusal.TheVariants as Refusal'
+use Rattle.wire.specs.Verdicts.{Ruling, Verdict, Accepted, Refused, ruling_of, number_of, verdict_of}
 
 -- C-12: no two verdicts tell the same
 verdict_by : Ruling → Verdict
@@ -63,68 +58,6 @@ module _ (rows : List (Bool × ℕ)) (numbered : Numbered rows) where
   pub accepted_when : (verdict_of (ladder 0 rows) ≡ Accepted) ↔ NoneHolds rows
   accepted_when = (λ e. (passed-exactly rows numbered).0 (verdict-number Accepted e), λ s. verdict-accepted (ladder 0 rows) ((passed-exactly rows numbered).1 s))
 
--- C-12: no row has the number 0, and no two rows have the same
-pub number-positive : (refusal : Refusal) → 1 ≤ row_number refusal
-number-positive Refusal'.NotWholeOrders = omega arith
-number-positive Refusal'.ListTooLong = omega arith
-number-positive Refusal'.OrderZero = omega arith
-number-positive Refusal'.UnknownType = omega arith
-number-positive Refusal'.SpareByte = omega arith
-number-positive Refusal'.SecondWord = omega arith
-number-positive Refusal'.OrderTwice = omega arith
-number-positive Refusal'.TypeChanged = omega arith
-number-positive Refusal'.NoSuchPacket = omega arith
-number-positive Refusal'.Length = omega arith
-number-positive Refusal'.NoTablePacket = omega arith
-number-positive Refusal'.EmptySlotFilled = omega arith
-number-positive Refusal'.UnknownSlotType = omega arith
-number-positive Refusal'.NumberTwice = omega arith
-number-positive Refusal'.NumberClash = omega arith
-number-positive Refusal'.FirstByte = omega arith
-number-positive Refusal'.ZeroBit = omega arith
-
-row_of : ℕ → Refusal
-row_of number = cond (eqb number 1) Refusal'.NotWholeOrders (cond (eqb number 2) Refusal'.ListTooLong (cond (eqb number 3) Refusal'.OrderZero (cond (eqb number 4) Refusal'.UnknownType (cond (eqb number 5) Refusal'.SpareByte (cond (eqb number 6) Refusal'.SecondWord (cond (eqb number 7) Refusal'.OrderTwice (cond (eqb number 8) Refusal'.TypeChanged (cond (eqb number 9) Refusal'.NoSuchPacket (cond (eqb number 10) Refusal'.Length (cond (eqb number 11) Refusal'.NoTablePacket (cond (eqb number 12) Refusal'.EmptySlotFilled (cond (eqb number 13) Refusal'.UnknownSlotType (cond (eqb number 14) Refusal'.NumberTwice (cond (eqb number 15) Refusal'.NumberClash (cond (eqb number 16) Refusal'.FirstByte (Refusal'.ZeroBit))))))))))))))))
-
-row_back : (refusal : Refusal) → row_of (row_number refusal) ≡ refusal
-unfolding row_of
-row_back Refusal'.NotWholeOrders = refl
-row_back Refusal'.ListTooLong = refl
-row_back Refusal'.OrderZero = refl
-row_back Refusal'.UnknownType = refl
-row_back Refusal'.SpareByte = refl
-row_back Refusal'.SecondWord = refl
-row_back Refusal'.OrderTwice = refl
-row_back Refusal'.TypeChanged = refl
-row_back Refusal'.NoSuchPacket = refl
-row_back Refusal'.Length = refl
-row_back Refusal'.NoTablePacket = refl
-row_back Refusal'.EmptySlotFilled = refl
-row_back Refusal'.UnknownSlotType = refl
-row_back Refusal'.NumberTwice = refl
-row_back Refusal'.NumberClash = refl
-row_back Refusal'.FirstByte = refl
-row_back Refusal'.ZeroBit = refl
-
-pub number_apart : (one other : Refusal) → row_number one ≡ row_number other → one ≡ other
-number_apart one other e = sym (row_back one) ∙ (ap row_of e ∙ row_back other)
-
--- C-12: the verdict of an answer is that of its number
-pub verdict_by_number : {A : Type 0} (answer : Result A Refusal) → verdict_in answer ≡ verdict_of (number_in answer)
-verdict_by_number (Ok value) = sym (verdict-accepted 0 refl)
-verdict_by_number (Err refusal) =
-    let p : 1 ≤ row_number refusal = number-positive refusal in
-    sym (verdict-refused (row_number refusal) (λ z. omega arith))
-
--- an answer with a number is so
-pub answered_with : {A : Type 0} (answer : Result A Refusal) {number : ℕ} → number_in answer ≡ number → verdict_in answer ≡ verdict_of number
-answered_with answer e = verdict_by_number answer ∙ ap verdict_of e
-
--- what a `?` hands on has the number that came
-pub exit_number : {A : Type 0} (answer : Result A Refusal) (refusal : Refusal) → IsErrAnd answer (λ (own : Refusal). own ≡ refusal)
-    → number_in answer ≡ row_number refusal
-exit_number answer refusal p = let q = err_from_is_err_and answer p in rw (q.1, q.2) refl
-
--- the number of a row is not 0, whatever it is said to be
-pub number_nonzero : (refusal : Refusal) (number : ℕ) → row_number refusal ≡ number → number ≡ 0 → ⊥
-number_nonzero refusal number same z = let p : 1 ≤ row_number refusal = number-positive refusal in omega arith
+-- two numbers never share a verdict
+pub verdict-number-apart : (one other : ℕ) → verdict_of one ≡ verdict_of other → one ≡ other
+verdict-number-apart one other e = sym (number-verdict one) ∙ (ap number_of e ∙ number-verdict other)

@@ -1,6 +1,6 @@
 -- `place_refusal`: the rows of the slot by itself, above the one that looks at earlier slots.
 use Rattle.std.proofs.Common.{sym, ◌∙◌, inl, inr}
-use Rattle.wire.proofs.Answers.{exit_number, number-positive}
+use Rattle.wire.proofs.Results.{exit_number, number-positive}
 use Rattle.telegram.proofs.Rows.{place_own, place_taken, place_clear}
 use Rattle.telegram_reader.proofs.place_refusal.Goals as goal
 use Rattle.telegram_reader.proofs.place_refusal.Goals.{else-coded-ne0-via-then-coded-ne0+else-taken_before, else-coded-ne0-via-else-coded-ne0}

@@ -3,7 +3,7 @@ use Rattle.std.proofs.Common.{◌≡◌, sym, ◌∙◌, arith, rules, eq-eqb, l
 use Rattle.kit.specs.Ladder.{ladder}
 use Rattle.kit.proofs.Ladder.{ladder-each}
 use Rattle.kit.proofs.Loops.{first-go, first_hit, scan-end}
-use Rattle.wire.proofs.Answers.{exit_number, number_nonzero}
+use Rattle.wire.proofs.Results.{exit_number, number_nonzero}
 use Rattle.telegram.specs.Telegrams.{place_rows, read_rows}
 use Rattle.telegram.proofs.Rows.{place-numbered}
 use Rattle.telegram_reader.proofs.refusal_within.Invariants.{judged}
