@@ -5,11 +5,11 @@ use mathlib.Core.Logic.{inl, inr}
 use mathlib.Core.Path.{◌≡◌, refl, ap}
 use mathlib.Core.Bool.{true, false, not}
 use lib.ListN.{replicate}
+use Rattle.telegram.specs.Telegrams.{Reading}
 use Rattle.kit.proofs.Ladder.{ladder_decides, ladder-silent}
 use Rattle.kit.proofs.Maps.{replicate-at}
 use Rattle.condition.specs.Slots.{slot_count, empty_slot}
-use Rattle.wire.specs.declared.verdicts.Verdict.TheVariants.{Accepted, Refused}
-use Rattle.telegram.specs.declared.Reading.{Reading}
+use Rattle.wire.specs.Verdicts.{Accepted, Refused}
 use Rattle.telegram.specs.declared.Telegram.{Telegram}
 use Rattle.picture.specs.Pictures.{clashes}
 use Rattle.marks.specs.Marks.{marks_of}

@@ -12,7 +12,7 @@ use Rattle.kit.proofs.Ladder.{refused-exactly, decides_such}
 use Rattle.kit.proofs.Maps.{replicate-at}
 use Rattle.condition.specs.Slots.{slot_count}
 use Rattle.condition.specs.declared.slots.Slot.{Slot}
-use Rattle.wire.specs.declared.verdicts.Verdict.TheVariants.{Accepted, Refused as refusedBy}
+use Rattle.wire.specs.Verdicts.{Accepted, Refused as refusedBy}
 use Rattle.telegram.specs.Tables.{packets, first_packet}
 use Rattle.telegram.specs.Telegrams.{packet_in, step_in, telegram_of, read_rows, read_refusal, blank_telegram}
 use Rattle.telegram.specs.declared.Telegram.{Telegram}

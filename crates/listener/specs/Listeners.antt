@@ -20,10 +20,8 @@
 use Rattle.std.specs.Prelude.{ℕ, Bool, false, not, ◌&&◌, List, [], ◌∷◌, ◌++◌, get_or, replicate}
 use Rattle.kit.specs.Ladder.{ladder}
 use Rattle.condition.specs.Slots.{empty_slot, slot_count}
-use Rattle.wire.specs.declared.verdicts.Verdict.{Verdict}
-use Rattle.wire.specs.declared.verdicts.Verdict.TheVariants.{Accepted, Refused}
-use Rattle.telegram.specs.Telegrams.{read_rows, read_of}
-use Rattle.telegram.specs.declared.Reading.{Reading}
+use Rattle.wire.specs.Verdicts.{Verdict, Accepted, Refused}
+use Rattle.telegram.specs.Telegrams.{Reading, read_rows, read_of}
 use Rattle.telegram.specs.declared.Telegram.{Telegram}
 use Rattle.picture.specs.Pictures.{count_of, clashes}
 use Rattle.marks.specs.Marks.{marks_of}

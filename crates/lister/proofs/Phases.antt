@@ -1,13 +1,13 @@
 -- A piece taken in parts: one after another they are the whole; where no telegram is begun, telegrams that lie whole in it are heard one by
 -- one; and when a telegram has become whole, none is begun.
-use Prim.Native.Nat.{ℕ, ◌+◌, ◌-◌, ◌*◌, ◌/◌, ◌<◌, ◌≤◌, min}
-use mathlib.Core.Path.{◌≡◌, refl, ap, sym, ◌∙◌, subst, subst⁻¹}
+use Prim.Native.Nat.{ℕ, ◌+◌, ◌-◌, ◌*◌, ◌/◌, ◌%◌, ◌<◌, ◌≤◌, min}
+use mathlib.Core.Path.{◌≡◌, refl, ap, ap₂, sym, ◌∙◌, subst, subst⁻¹}
 use mathlib.Core.Logic.{◌⊎◌, inl, inr}
 use mathlib.Core.Bool.{cond}
-use mathlib.Core.List.{List, [], ◌∷◌, ◌++◌}
+use mathlib.Core.List.{List, [], ◌∷◌, ◌++◌, append_assoc}
 use lib.Dec.{eqb, ltb}
-use lib.ListN.{length, take, drop, length-take, length-drop, length-append}
-use lib.Seq.{take-add, take_all}
+use lib.ListN.{length, take, drop, length-drop, length-append}
+use lib.Seq.{take-add, drop_at, drop-drop}
 use native.Mathlib.Omega.{arith}
 use borrow.Author.Tests.{eqb-true, ltb-true, ltb-false}
 use Rattle.kit.specs.Put.{Poured}
@@ -47,30 +47,14 @@ module _ (start : Lister) (piece : List ℕ) {from to : ℕ} (forth : from ≤ t
       ∙ (lines-of-then start (take from piece) (take (to - from) (drop from piece))
       ∙ ap (λ (s : Lister). piece_lines start (take from piece) ++ piece_lines s (take (to - from) (drop from piece))) (sym same))
 
-  pub lines-again : {lister : Lister} {l m n : List ℕ} {at i j : ℕ} → lister ≡ take_of start (take from piece) → Poured l at (piece_lines start (take from piece)) m i
-      → Poured m i (piece_lines lister (take (to - from) (drop from piece))) n j → Poured l at (piece_lines start (take to piece)) n j
-  lines-again same a b = poured_as (lines-to same) (poured-then a b)
-
 -- a piece in two parts
-module _ (start : Lister) (piece : List ℕ) (cut : ℕ) where
-  abbrev first : List ℕ
-  first = take (cut - 0) piece
-
-  abbrev second : List ℕ
-  second = take (length piece - cut) (drop cut piece)
-
-  both : cut ≤ length piece → first ++ second ≡ piece
-  both p =
-      let e : cut - 0 ≡ cut = omega arith in
-      ap (λ (n : ℕ). take n piece ++ second) e
-      ∙ (sym (take-add cut (length piece - cut) piece) ∙ take_all (cut + (length piece - cut)) piece (omega arith))
-
-  pub two_parts : cut ≤ length piece → {between end : Lister} {l m n : List ℕ} {at i j : ℕ} → between ≡ take_of start first → Poured l at (piece_lines start first) m i
-      → end ≡ take_of between second → Poured m i (piece_lines between second) n j → (end ≡ take_of start piece) × Poured l at (piece_lines start piece) n j
-  two_parts p {between} a al b bl = (
-    b ∙ (ap (λ s. take_of s second) a ∙ (sym (take-then start first second) ∙ ap (take_of start) (both p))),
-    poured_as (ap (piece_lines start) (sym (both p)) ∙ (lines-of-then start first second ∙ ap (λ s. piece_lines start first ++ piece_lines s second) (sym a))) (poured-then al bl),
-  )
+pub two_parts : (start : Lister) {piece : List ℕ} (first second : List ℕ) → piece ≡ first ++ second → {between end : Lister} {l m n : List ℕ} {at i j : ℕ}
+    → (between ≡ take_of start first) × Poured l at (piece_lines start first) m i → (end ≡ take_of between second) × Poured m i (piece_lines between second) n j
+    → (end ≡ take_of start piece) × Poured l at (piece_lines start piece) n j
+two_parts start {piece} first second both (a, al) (b, bl) = (
+  b ∙ (ap (λ s. take_of s second) a ∙ (sym (take-then start first second) ∙ ap (take_of start) (sym both))),
+  poured_as (ap (piece_lines start) both ∙ (lines-of-then start first second ∙ ap (λ s. piece_lines start first ++ piece_lines s second) (sym a))) (poured-then al bl),
+)
 
 -- ---- where no telegram is begun
 
@@ -113,71 +97,113 @@ pub none_left : {lister : Lister} {kept : List ℕ} → Kept lister kept → (by
 unfolding keeping
 none_left k bytes whole = ap (λ (l : Lister). l.kept) (take-one k bytes whole)
 
--- ---- the three parts of a piece
+-- ---- what is left of a piece when telegrams of it were heard: the state has no telegram begun, or there is nothing left; and the state and
+-- the lines go on from there as from the start
 
--- how many of its bytes are telegrams that lie whole in it
-module _ (lister : Lister) (piece : List ℕ) (m : MadeByPieces lister) (begun : (lister.kept ≡ 0) ⊎ (length piece ≡ 0)) where
-  abbrev whole : ℕ
-  whole = length piece / 26 * 26
+pub record Left (start : Lister) (piece before : List ℕ) (at : ℕ) (lister : Lister) (rest out : List ℕ) (next : ℕ) : Type 0 where
+  pub made : MadeByPieces lister
+  pub free : (lister.kept ≡ 0) ⊎ (length rest ≡ 0)
+  pub within : length rest ≤ length piece
+  pub behind : rest ≡ drop (length piece - length rest) piece
+  pub even : length rest % 26 ≡ length piece % 26
+  pub goes : take_of lister rest ≡ take_of start piece
+  pub told : List ℕ
+  pub put : Poured before at told out next
+  pub all : told ++ piece_lines lister rest ≡ piece_lines start piece
 
-  whole_length : length (first lister piece whole) ≡ whole
-  whole_length = omega (arith, length-take (whole - 0) piece)
+-- where bytes are left, none is begun
+unbegun : {kept left : ℕ} → (kept ≡ 0) ⊎ (left ≡ 0) → 0 < left → kept ≡ 0
+unbegun (inl none) some = none
+unbegun (inr empty) some = absurd (omega arith)
 
-  pub whole-begun : (lister.kept ≡ 0) ⊎ (length (first lister piece whole) ≡ 0)
-  whole-begun = go begun
-    where
-      go : (lister.kept ≡ 0) ⊎ (length piece ≡ 0) → (lister.kept ≡ 0) ⊎ (length (first lister piece whole) ≡ 0)
-      go (inl none) = inl none
-      go (inr empty) = inr (omega (arith, whole_length))
+module _ {start : Lister} {piece before : List ℕ} {at : ℕ} where
+  pub left-all : MadeByPieces start → (start.kept ≡ 0) ⊎ (length piece ≡ 0) → {lister : Lister} {next : ℕ} → lister ≡ start → next ≡ min at (length before)
+      → Left start piece before at lister piece before next
+  left-all m free {lister} {next} same here =
+      let none : length piece - length piece ≡ 0 = omega arith in
+      subst⁻¹ (λ l. Left start piece before at l piece before next) same
+      (record {
+        made = m;
+        free = free;
+        within = omega arith;
+        behind = ap (λ k. drop k piece) (sym none);
+        even = refl;
+        goes = refl;
+        told = [];
+        put = record { stored = refl; past = omega arith };
+        all = refl;
+      })
 
-  pub whole_even : length (first lister piece whole) ≡ length (first lister piece whole) / 26 * 26
-  whole_even = omega (arith, whole_length)
+  -- one telegram of it
+  pub left-next : {lister : Lister} {rest out : List ℕ} {next : ℕ} (telegram more : List ℕ) → Left start piece before at lister rest out next → rest ≡ telegram ++ more → length telegram ≡ 26
+      → {listener : Listener} {tables to : ℕ} {after : List ℕ} → HeardNext (heard_by lister.listener telegram) lister.tables listener tables
+      → Poured out next (heard_lines (heard_by lister.listener telegram)) after to
+      → Left start piece before at (state listener tables lister.tail lister.kept) more after to
+  left-next {lister} {rest} telegram more l cut long {listener} {tables} heard put =
+      let size : length rest ≡ 26 + length more = ap length cut ∙ omega (arith, length-append telegram more, long) in
+      let zero-kept : lister.kept ≡ 0 = unbegun l.free (omega (arith, size)) in
+      let kept : Kept lister [] = none-begun l.made zero-kept in
+      let same : state listener tables lister.tail lister.kept ≡ take_of lister telegram = whole-taken kept telegram long listener tables heard in
+      let told : heard_lines (heard_by lister.listener telegram) ≡ piece_lines lister telegram = sym (whole-lines kept telegram long) in
+      let past : length piece - length more ≡ length piece - length rest + 26 = omega (arith, size, l.within) in
+      record {
+        made = here lister telegram l.made same;
+        free = inl zero-kept;
+        within = omega (arith, size, l.within);
+        behind =
+            sym (drop_at telegram more 26 long)
+            ∙ (ap (drop 26) (sym cut ∙ l.behind) ∙ (drop-drop 26 (length piece - length rest) piece ∙ ap (λ k. drop k piece) (sym past)));
+        even = omega (arith, size, l.even);
+        goes = ap (λ s. take_of s more) same ∙ (sym (take-then lister telegram more) ∙ (ap (take_of lister) (sym cut) ∙ l.goes));
+        told = l.told ++ heard_lines (heard_by lister.listener telegram);
+        put = poured-then l.put put;
+        all =
+            append_assoc l.told (heard_lines (heard_by lister.listener telegram)) (piece_lines (state listener tables lister.tail lister.kept) more)
+            ∙ (ap (λ x. l.told ++ x) (ap₂ (λ x s. x ++ piece_lines s more) told same ∙ (sym (lines-of-then lister telegram more) ∙ ap (piece_lines lister) (sym cut))) ∙ l.all);
+      }
 
-  pub whole-left : {between : Lister} → between ≡ take_of lister (first lister piece whole) → between.kept + length (second lister piece whole) ≤ 26
-  whole-left {between} same = go begun
-    where
-      few : length (second lister piece whole) < 26
-      few = omega (arith, length-take (length piece - whole) (drop whole piece), length-drop whole piece)
+  module _ {lister : Lister} {rest out : List ℕ} {next : ℕ} (l : Left start piece before at lister rest out next) where
+    -- fewer bytes than a telegram has are left: those at the end, and they have room
+    pub left-behind : length rest < 26 → rest ≡ drop (length piece - length piece % 26) piece
+    left-behind few = let long : length piece - length rest ≡ length piece - length piece % 26 = omega (arith, l.even) in l.behind ∙ ap (λ k. drop k piece) long
 
-      go : (lister.kept ≡ 0) ⊎ (length piece ≡ 0) → between.kept + length (second lister piece whole) ≤ 26
-      go (inl none) =
-          let kept : between.kept ≡ 0 = ap (λ (l : Lister). l.kept) same ∙ none_after (none-begun m none) (first lister piece whole) whole_even in
-          omega (arith, kept, few)
-      go (inr empty) = let kept = lacks (here lister (first lister piece whole) m same) in omega (arith, kept, length-take (length piece - whole) (drop whole piece), length-drop whole piece)
+    pub left-fits : length rest < 26 → lister.kept + length rest ≤ 26
+    left-fits few = go l.free
+      where
+        go : (lister.kept ≡ 0) ⊎ (length rest ≡ 0) → lister.kept + length rest ≤ 26
+        go (inl none) = omega arith
+        go (inr empty) = omega (arith, lacks l.made)
 
--- how many bytes the telegram in hand lacks
-module _ (lister : Lister) (piece : List ℕ) (m : MadeByPieces lister) (cut : ℕ) (lacking : cut ≡ cond (eqb lister.kept 0) 0 (min (26 - lister.kept) (length piece))) where
-  pub cut_inside : cut ≤ length piece
-  cut_inside =
-      on (eqb lister.kept 0)
-      (λ e. let none : cut ≡ 0 = lacking ∙ rw e refl in omega arith)
-      (λ e. let some : cut ≡ min (26 - lister.kept) (length piece) = lacking ∙ rw e refl in omega arith)
+    -- the same under other names
+    pub left_as : {other : Lister} {bytes : List ℕ} → other ≡ lister → bytes ≡ rest → Left start piece before at other bytes out next
+    left_as {other} {bytes} same e = subst⁻¹ (λ s. Left start piece before at s bytes out next) same (subst⁻¹ (λ b. Left start piece before at lister b out next) e l)
 
-  cut-length : length (first lister piece cut) ≡ cut
-  cut-length = omega (arith, length-take (cut - 0) piece, cut_inside)
+    -- what is left is taken
+    pub left-done : {end : Lister} {after : List ℕ} {to : ℕ} → end ≡ take_of lister rest → Poured out next (piece_lines lister rest) after to
+        → (end ≡ take_of start piece) × Poured before at (piece_lines start piece) after to
+    left-done same put = (same ∙ l.goes, poured_as (sym l.all) (poured-then l.put put))
 
-  pub cut_fits : lister.kept + length (first lister piece cut) ≤ 26
+-- the bytes that the telegram in hand lacks, and those behind them
+module _ {lister : Lister} {piece : List ℕ} (first second : List ℕ) (m : MadeByPieces lister) (both : piece ≡ first ++ second)
+    (lacking : length first ≡ cond (eqb lister.kept 0) 0 (min (26 - lister.kept) (length piece))) where
+  pub cut_fits : lister.kept + length first ≤ 26
   cut_fits =
-      let few = lacks m in
       on (eqb lister.kept 0)
-      (λ e. let none : cut ≡ 0 = lacking ∙ rw e refl in omega (arith, cut-length, few))
-      (λ e. let some : cut ≡ min (26 - lister.kept) (length piece) = lacking ∙ rw e refl in omega (arith, cut-length, few))
+      (λ e. let none : length first ≡ 0 = lacking ∙ rw e refl in omega (arith, none, lacks m))
+      (λ e. let some : length first ≡ min (26 - lister.kept) (length piece) = lacking ∙ rw e refl in omega (arith, some, lacks m))
 
   -- after them none is begun, or nothing is left
-  pub cut-begun : {between : Lister} → between ≡ take_of lister (first lister piece cut) → (between.kept ≡ 0) ⊎ (length (second lister piece cut) ≡ 0)
+  pub cut-begun : {between : Lister} → between ≡ take_of lister first → (between.kept ≡ 0) ⊎ (length second ≡ 0)
   cut-begun {between} same =
       on (eqb lister.kept 0)
       (λ e.
-      let zero-kept : lister.kept ≡ 0 = eqb-true lister.kept 0 e in
-      let none : cut ≡ 0 = lacking ∙ rw e refl in
-      inl (ap (λ (l : Lister). l.kept) same ∙ none_after (none-begun m zero-kept) (first lister piece cut) (omega (arith, cut-length, none))))
+      let none : length first ≡ 0 = lacking ∙ rw e refl in
+      inl (ap (λ (l : Lister). l.kept) same ∙ none_after (none-begun m (eqb-true lister.kept 0 e)) first (omega (arith, none))))
       (λ e.
-      let some : cut ≡ min (26 - lister.kept) (length piece) = lacking ∙ rw e refl in
+      let some : length first ≡ min (26 - lister.kept) (length piece) = lacking ∙ rw e refl in
       let (bytes, kept) = made_kept m in
       on (ltb (26 - lister.kept) (length piece))
       (λ more.
-      let all : length (bytes ++ first lister piece cut) ≡ 26 =
-      omega (arith, length-append bytes (first lister piece cut), cut-length, kept.counted, kept.short, some, ltb-true (26 - lister.kept) (length piece) more) in
-      inl (ap (λ (l : Lister). l.kept) same ∙ none_left kept (first lister piece cut) all))
-      (λ less.
-      inr (omega (arith, length-take (length piece - cut) (drop cut piece), length-drop cut piece, some, ltb-false (26 - lister.kept) (length piece) less))))
+      let all : length (bytes ++ first) ≡ 26 = omega (arith, length-append bytes first, kept.counted, kept.short, some, ltb-true (26 - lister.kept) (length piece) more) in
+      inl (ap (λ (l : Lister). l.kept) same ∙ none_left kept first all))
+      (λ less. inr (omega (arith, ap length both ∙ length-append first second, some, ltb-false (26 - lister.kept) (length piece) less))))

@@ -58,10 +58,9 @@ impl Lister {
         requires { MadeByPieces self }
         ensures { (result.lister ≡ take_of self piece.now) × Poured listing.old at (piece_lines self piece.now) listing.new result.at }
     {
-        let end = lacking(self.kept, piece.len());
-        let listed = bite(self, &piece[0..end], listing, at);
-        let lister = listed.lister;
-        take_rest(lister, &piece[end..], listing, listed.at)
+        let (begun, rest) = piece.split_at(lacking(self.kept, piece.len()));
+        let listed = bite(self, begun, listing, at);
+        take_rest(listed.lister, rest, listing, listed.at)
     }
 }
 
@@ -71,25 +70,13 @@ fn lacking(kept: usize, size: usize) -> usize
     ensures { result ≡ cond (eqb kept 0) 0 (min (26 - kept) size) }
 {
     if kept == 0 {
-        return 0;
+        0
+    } else {
+        (LENGTH - kept).min(size)
     }
-    if LENGTH - kept < size {
-        return LENGTH - kept;
-    }
-    size
 }
 
-// How many tables were taken, so many more. The count stays at the greatest number that it can hold.
-fn tally(tables: u64, more: u64) -> u64
-    ensures { result ≡ min (tables + more) most_tables }
-{
-    if u64::MAX - tables < more {
-        return u64::MAX;
-    }
-    tables + more
-}
-
-// Hears one telegram in lent memory, and puts its lines.
+// Hears one telegram in lent memory, and puts its lines. The count of tables stays at the greatest number that it can hold.
 fn hear_next(
     memory: &mut [u8; 310],
     tables: u64,
@@ -100,11 +87,9 @@ fn hear_next(
     ensures { HeardNext (heard_by (listener_in memory.old) telegram.now) tables (listener_in memory.new) result.tables × Poured listing.old at (heard_lines (heard_by (listener_in memory.old) telegram.now)) listing.new result.at × HeardIn carries memory.old telegram.now result.answer memory.new }
 {
     let answer = listener::hear_in(memory, telegram);
-    let tables = tally(tables, listing_tables::tables_of(answer));
-    let next = listing_tables::put_heard(answer, memory, listing, at);
     Next {
-        tables,
-        at: next,
+        tables: tables.saturating_add(listing_tables::tables_of(answer)),
+        at: listing_tables::put_heard(answer, memory, listing, at),
         answer,
     }
 }
@@ -115,22 +100,18 @@ pub fn hear_in(memory: &mut [u8; 310], telegram: &[u8]) -> Answer
     ensures { HeardIn carries memory.old telegram.now result memory.new }
 {
     let mut lines = [0u8; 1];
-    let next = hear_next(memory, 0, telegram, &mut lines, 1);
-    let answer = next.answer;
-    answer
+    hear_next(memory, 0, telegram, &mut lines, 1).answer
 }
 
 // Hears one telegram; nothing is left of it.
 fn hear_one(lister: Lister, telegram: &[u8], listing: &mut [u8], at: usize) -> Listed
     ensures { (result.lister ≡ keeping lister (telegram.now ∷ []) []) × Poured listing.old at (lines_for lister.listener (telegram.now ∷ [])) listing.new result.at }
 {
-    let listener = lister.listener;
-    let mut memory = listener::memory_of(listener);
+    let mut memory = listener::memory_of(lister.listener);
     let next = hear_next(&mut memory, lister.tables, telegram, listing, at);
-    let listener = listener::listener_in(&memory);
     Listed {
         lister: Lister {
-            listener,
+            listener: listener::listener_in(&memory),
             tables: next.tables,
             tail: [0u8; 26],
             kept: 0,
@@ -139,46 +120,28 @@ fn hear_one(lister: Lister, telegram: &[u8], listing: &mut [u8], at: usize) -> L
     }
 }
 
-// Hears telegrams that lie whole in a piece, one after another, where none is begun. The listener stands in lent memory from the first to
-// the last.
-fn take_whole(lister: Lister, bytes: &[u8], listing: &mut [u8], at: usize) -> Listed
-    requires { MadeByPieces lister × ((lister.kept ≡ 0) ⊎ (length bytes.now ≡ 0)) × (length bytes.now ≡ length bytes.now / 26 * 26) }
-    ensures { (result.lister ≡ take_of lister bytes.now) × Poured listing.old at (piece_lines lister bytes.now) listing.new result.at }
-{
-    let listener = lister.listener;
-    let tail = lister.tail;
-    let mut memory = listener::memory_of(listener);
-    let mut tables = lister.tables;
-    let mut next = text::put_words(listing, at, b"");
-    let mut from: usize = 0;
-    while from < bytes.len() {
-        let end = from + LENGTH;
-        let heard = hear_next(&mut memory, tables, &bytes[from..end], listing, next);
-        tables = heard.tables;
-        next = heard.at;
-        from = end;
-    }
-    let listener = listener::listener_in(&memory);
-    Listed {
-        lister: Lister {
-            listener,
-            tables,
-            tail,
-            kept: lister.kept,
-        },
-        at: next,
-    }
-}
-
-// Takes a piece where no telegram is begun, or an empty one.
+// Takes a piece where no telegram is begun, or an empty one: hears the telegrams that lie whole in it, one after another, and keeps what is
+// left. The listener stands in lent memory from the first to the last.
 fn take_rest(lister: Lister, piece: &[u8], listing: &mut [u8], at: usize) -> Listed
     requires { MadeByPieces lister × ((lister.kept ≡ 0) ⊎ (length piece.now ≡ 0)) }
     ensures { (result.lister ≡ take_of lister piece.now) × Poured listing.old at (piece_lines lister piece.now) listing.new result.at }
 {
-    let end = piece.len() / LENGTH * LENGTH;
-    let listed = take_whole(lister, &piece[0..end], listing, at);
-    let lister = listed.lister;
-    bite(lister, &piece[end..], listing, listed.at)
+    let mut memory = listener::memory_of(lister.listener);
+    let mut tables = lister.tables;
+    let mut next = at.min(listing.len());
+    let telegrams = piece.chunks_exact(LENGTH);
+    let left = telegrams.remainder();
+    for telegram in telegrams {
+        let heard = hear_next(&mut memory, tables, telegram, listing, next);
+        tables = heard.tables;
+        next = heard.at;
+    }
+    let after = Lister {
+        listener: listener::listener_in(&memory),
+        tables,
+        ..lister
+    };
+    bite(after, left, listing, next)
 }
 
 // Takes a piece that is not longer than what the telegram in hand still lacks.
@@ -191,15 +154,12 @@ fn bite(lister: Lister, bytes: &[u8], listing: &mut [u8], at: usize) -> Listed
     if LENGTH <= kept {
         return hear_one(lister, &tail, listing, at);
     }
-    let next = text::put_words(listing, at, b"");
-    let listener = lister.listener;
     Listed {
         lister: Lister {
-            listener,
-            tables: lister.tables,
             tail,
             kept,
+            ..lister
         },
-        at: next,
+        at: at.min(listing.len()),
     }
 }

@@ -4,7 +4,7 @@
 ghost use Rattle.kit.specs.Put.{Poured};
 ghost use Rattle.listing_lines.specs.Lines.{header_line, refused_line, end_line};
 
-const LINE_FEED: u8 = b'\n';
+use text::LINE_FEED;
 
 // The first line. The 1 names this form of listing.
 pub const HEADER: [u8; 13] = *b"conditions 1\n";
@@ -16,6 +16,7 @@ pub const REFUSED: [u8; 8] = *b"refused ";
 
 const END: [u8; 4] = *b"end ";
 
+#[tactic(auto, unfolding(crate::specs::Lines::header_line))]
 pub fn put_header(listing: &mut [u8], at: usize) -> usize
     ensures { Poured listing.old at header_line listing.new result }
 {

@@ -4,20 +4,17 @@ ghost use Rattle.page.specs.Pages.{Paged};
 ghost use Rattle.wire.specs.Distances.{no_value};
 ghost use Rattle.text.specs.Words.{blank};
 ghost use Rattle.listing_words.specs.Words.{line_feed, minus, number_then, distance_text, mark_word};
-ghost use Rattle.listing_seconds.specs.Seconds.{second_word, system_word, limit_word};
+ghost use Rattle.listing_seconds.specs.Seconds.{stroke, second_word};
 ghost use Rattle.listing_entries.specs.Entries.{entry_line};
 ghost use Rattle.listing_lines.specs.Lines.{table_line};
 
 use condition::{Body, Slot};
 use listing_lines::TABLE;
 use listing_words::{CARRIED, NEW};
+use text::{BLANK, LINE_FEED};
 use wire::NO_VALUE;
 
-const BLANK: u8 = b' ';
-
 const STROKE: u8 = b'/';
-
-const LINE_FEED: u8 = b'\n';
 
 const MINUS: u8 = b'-';
 
@@ -25,10 +22,7 @@ const MINUS: u8 = b'-';
 fn metres(word: u16) -> u16
     ensures { result ≡ cond (ltb word no_value) word (0x10000 - word) }
 {
-    if word < NO_VALUE {
-        return word;
-    }
-    u16::MAX - word + 1
+    word.cast_signed().unsigned_abs()
 }
 
 // "- ", for what has no value.
@@ -45,36 +39,23 @@ fn put_distance(page: &mut [u8], at: usize, word: u16) -> usize
     ensures { Paged 7 page.old at (distance_text word ++ (blank ∷ [])) page.new result }
 {
     if word == NO_VALUE {
-        return put_none(page, at);
+        put_none(page, at)
+    } else {
+        let next = page::put_byte_if(page, at, MINUS, word >= NO_VALUE);
+        page::put_number(page, next, metres(word), BLANK)
     }
-    let next = page::put_byte_if(page, at, MINUS, word >= NO_VALUE);
-    page::put_number(page, next, metres(word), BLANK)
 }
 
-// `voltage/country`, or `-` where the change distance has no value.
-fn put_system(page: &mut [u8], at: usize, change: u16, country: u16, voltage: u8) -> usize
+// `voltage/country`.
+fn put_system(page: &mut [u8], at: usize, country: u16, voltage: u8) -> usize
     requires { at + 12 ≤ length page.old }
-    ensures { Paged 10 page.old at (system_word change country voltage ++ (blank ∷ [])) page.new result }
+    ensures { Paged 10 page.old at (number_then voltage stroke ++ number_then country blank) page.new result }
 {
-    if change == NO_VALUE {
-        return put_none(page, at);
-    }
     let next = page::put_number(page, at, voltage as u16, STROKE);
     page::put_number(page, next, country, BLANK)
 }
 
-// The limit, or `-` where the change distance has no value.
-fn put_limit(page: &mut [u8], at: usize, change: u16, limit: u16) -> usize
-    requires { at + 8 ≤ length page.old }
-    ensures { Paged 6 page.old at (limit_word change limit ++ (blank ∷ [])) page.new result }
-{
-    if change == NO_VALUE {
-        return put_none(page, at);
-    }
-    page::put_number(page, at, limit, BLANK)
-}
-
-// What the second word of a condition says.
+// What the second word of a condition says; `-` where the change distance has no value.
 fn put_second(body: Body, page: &mut [u8], at: usize) -> usize
     requires { at + 12 ≤ length page.old }
     ensures { Paged 10 page.old at (second_word body ++ (blank ∷ [])) page.new result }
@@ -82,12 +63,14 @@ fn put_second(body: Body, page: &mut [u8], at: usize) -> usize
     match body {
         Body::Empty => page::put_byte(page, at, BLANK),
         Body::Area { exit, .. } => put_distance(page, at, exit),
+        Body::Traction { change, .. } | Body::Current { change, .. } if change == NO_VALUE =>
+            put_none(page, at),
         Body::Traction {
-            change,
             country,
             voltage,
-        } => put_system(page, at, change, country, voltage),
-        Body::Current { change, limit } => put_limit(page, at, change, limit),
+            ..
+        } => put_system(page, at, country, voltage),
+        Body::Current { limit, .. } => page::put_number(page, at, limit, BLANK),
     }
 }
 
@@ -96,11 +79,12 @@ fn put_mark(page: &mut [u8], at: usize, carried: bool) -> usize
     requires { at + 8 ≤ length page.old }
     ensures { Paged 8 page.old at (mark_word carried ++ (line_feed ∷ [])) page.new result }
 {
-    if carried {
-        let next = page::put_short_text(page, at, &CARRIED);
-        return page::put_byte(page, next, LINE_FEED);
-    }
-    let next = page::put_short_text(page, at, &NEW);
+    // each word stands in a call of its own, so that its bytes are packed when this is compiled
+    let next = if carried {
+        page::put_short_text(page, at, &CARRIED)
+    } else {
+        page::put_short_text(page, at, &NEW)
+    };
     page::put_byte(page, next, LINE_FEED)
 }
 

@@ -21,12 +21,10 @@ fn put_picture(memory: &[u8; 310], page: &mut [u8], at: usize) -> usize
     ensures { Paged 740 page.old at (picture_lines (picture_in memory.now) (marks_in memory.now)) page.new result }
 {
     let mut next = at;
-    let mut i: usize = 0;
-    while i < SLOTS {
+    for i in 0..SLOTS {
         let slot = memory::shown_slot(memory, i);
         let carried = memory::is_marked(memory, i);
         next = entries::put_entry(i, slot, carried, page, next);
-        i += 1;
     }
     next
 }
@@ -45,7 +43,7 @@ fn put_table(
     let mut page = [0u8; 768];
     let first = entries::put_table_line(step, count, gap, &mut page, 0);
     let end = put_picture(memory, &mut page, first);
-    text::put_words(listing, at, &page[0..end])
+    text::put_words(listing, at, &page[..end])
 }
 
 // A line for a refusal, and none for any other answer.
@@ -53,7 +51,7 @@ fn put_refusal(answer: Answer, listing: &mut [u8], at: usize) -> usize
     ensures { Poured listing.old at (refusal_lines (told_of answer)) listing.new result }
 {
     let Answer::Refused(number) = answer else {
-        return text::put_words(listing, at, b"");
+        return at.min(listing.len());
     };
     listing_lines::put_refused(number, listing, at)
 }
@@ -72,8 +70,5 @@ pub fn put_heard(answer: Answer, memory: &[u8; 310], listing: &mut [u8], at: usi
 pub fn tables_of(answer: Answer) -> u64
     ensures { result ≡ tables_of (told_of answer) }
 {
-    let Answer::Taken { .. } = answer else {
-        return 0;
-    };
-    1
+    matches!(answer, Answer::Taken { .. }) as u64
 }

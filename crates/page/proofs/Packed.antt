@@ -5,8 +5,11 @@ use mathlib.Core.Bool.{Bool, true, false, cond}
 use mathlib.Core.List.{List, [], ◌∷◌, ◌++◌}
 use lib.Dec.{leb}
 use lib.ListN.{length, take, drop, get_or, length-take, length-drop, length-append, drop_of_length-le}
-use lib.Seq.{drop-cons, get_or-take, get_or-drop, drop-append-le, take-append-add, take_all}
+use lib.Seq.{sets, drop-cons, get_or-take, get_or-drop, drop-append-le, take-append-add, take_all}
 use lib.Pow.{pow-add}
+use Rattle.std.specs.Int.{w64, to_le_bytes}
+use borrow.Rule.Slice.PartMut.{put_mid}
+use Rattle.text.proofs.Copies.{part_sets}
 use native.Mathlib.Nat.{add_comm, pow-suc, div-div-eq-div-mul}
 use native.Mathlib.Omega.{arith}
 use mir.Val.{bool_byte}
@@ -30,8 +33,8 @@ low-take zero k x p = refl
 low-take (suc count) zero x p = absurd (omega arith)
 low-take (suc count) (suc k) x p = ap (λ l. x % 256 ∷ l) (low-take count k (x / 256) (omega arith))
 
--- the same as the code has them
-pub eight_low : (x : ℕ) → x % 256 ∷ x / 0x100 % 256 ∷ x / 0x10000 % 256 ∷ x / 0x1000000 % 256 ∷ x / 0x100000000 % 256 ∷ x / 0x10000000000 % 256 ∷ x / 0x1000000000000 % 256 ∷ x / 0x100000000000000 % 256 ∷ [] ≡ low_bytes 8 x
+-- eight of them are what `to_le_bytes` gives
+eight_low : (x : ℕ) → to_le_bytes w64 x ≡ low_bytes 8 x
 unfolding low_bytes
 eight_low x =
     let two : x / 0x10000 ≡ x / 256 / 256 = omega arith in
@@ -41,6 +44,13 @@ eight_low x =
     let six : x / 0x1000000000000 ≡ x / 256 / 256 / 256 / 256 / 256 / 256 = omega arith in
     let seven : x / 0x100000000000000 ≡ x / 256 / 256 / 256 / 256 / 256 / 256 / 256 = omega arith in
     rw (two, three, four, five, six, seven)
+
+-- written over eight bytes of a page
+pub eight_stored : (l stored : List ℕ) (at end piece : ℕ) → end ≡ at + 8 → end ≤ length l → stored ≡ to_le_bytes w64 piece
+    → put_mid at (end - at) l stored ≡ sets l at (low_bytes 8 piece)
+eight_stored l stored at end piece place room same =
+    let bytes : stored ≡ low_bytes 8 piece = same ∙ eight_low piece in
+    part_sets l stored at (end - at) (omega arith) (ap length bytes ∙ low-length 8 piece ∙ omega arith) ∙ ap (sets l at) bytes
 
 -- ---- a number made of bytes, the first one lowest
 
@@ -333,15 +343,12 @@ hex_flag d =
 abbrev pub hex_pair : ℕ → List ℕ
 hex_pair byte = hex_digit (byte / 16) ∷ hex_digit (byte % 16) ∷ []
 
--- those of the lowest byte of a number, and of a byte
-low-digits : (n : ℕ) → hex_pair (n % 256) ≡ hex_digit (n / 16 % 16) ∷ hex_digit (n % 16) ∷ []
-low-digits n =
-    let high : n % 256 / 16 ≡ n / 16 % 16 = omega arith in
-    let low : n % 256 % 16 ≡ n % 16 = omega arith in
-    ap (λ d. hex_digit d ∷ hex_digit (n % 256 % 16) ∷ []) high ∙ ap (λ d. hex_digit (n / 16 % 16) ∷ hex_digit d ∷ []) low
+-- the halves of the lowest byte of a number
+high : (n : ℕ) → n % 256 / 16 ≡ n / 16 % 16
+high n = omega arith
 
-all_digits : (n : ℕ) → n < 256 → hex_pair n ≡ hex_digit (n / 16 % 16) ∷ hex_digit (n % 16) ∷ []
-all_digits n p = let high : n / 16 ≡ n / 16 % 16 = omega arith in ap (λ d. hex_digit d ∷ hex_digit (n % 16) ∷ []) high
+low : (n : ℕ) → n % 256 % 16 ≡ n % 16
+low n = omega arith
 
 second : (n : ℕ) → n / 0x100 ≡ n / 16 / 16
 second n = omega arith
@@ -352,11 +359,21 @@ third n = omega arith
 fourth : (n : ℕ) → n / 0x1000000 ≡ n / 16 / 16 / 16 / 16 / 16 / 16
 fourth n = omega arith
 
-pub eight_hex : (n : ℕ) → n < 0x100000000 → ((hex_pair (n / 0x1000000) ++ hex_pair (n / 0x10000 % 256)) ++ hex_pair (n / 0x100 % 256)) ++ hex_pair (n % 256) ≡ hexadecimal 8 n
+-- the digits of the four bytes that `to_be_bytes` gives
+pub eight_hex : (n : ℕ) → ((hex_pair (n / 0x1000000 % 256) ++ hex_pair (n / 0x10000 % 256)) ++ hex_pair (n / 0x100 % 256)) ++ hex_pair (n % 256) ≡ hexadecimal 8 n
 unfolding hexadecimal
-eight_hex n p =
-    ap (λ l. ((l ++ hex_pair (n / 0x10000 % 256)) ++ hex_pair (n / 0x100 % 256)) ++ hex_pair (n % 256)) (all_digits (n / 0x1000000) (omega arith))
-    ∙ (ap (λ l. ((((hex_digit (n / 0x1000000 / 16 % 16) ∷ hex_digit (n / 0x1000000 % 16) ∷ []) ++ l) ++ hex_pair (n / 0x100 % 256)) ++ hex_pair (n % 256))) (low-digits (n / 0x10000))
-    ∙ (ap (λ l. ((((hex_digit (n / 0x1000000 / 16 % 16) ∷ hex_digit (n / 0x1000000 % 16) ∷ hex_digit (n / 0x10000 / 16 % 16) ∷ hex_digit (n / 0x10000 % 16) ∷ []) ++ l) ++ hex_pair (n % 256)))) (low-digits (n / 0x100))
-    ∙ (ap (λ l. ((hex_digit (n / 0x1000000 / 16 % 16) ∷ hex_digit (n / 0x1000000 % 16) ∷ hex_digit (n / 0x10000 / 16 % 16) ∷ hex_digit (n / 0x10000 % 16) ∷ hex_digit (n / 0x100 / 16 % 16) ∷ hex_digit (n / 0x100 % 16) ∷ []) ++ l)) (low-digits n)
-    ∙ rw (second n, third n, fourth n) refl)))
+eight_hex n =
+    rw (
+      high (n / 0x1000000),
+      low (n / 0x1000000),
+      high (n / 0x10000),
+      low (n / 0x10000),
+      high (n / 0x100),
+      low (n / 0x100),
+      high n,
+      low n,
+      second n,
+      third n,
+      fourth n,
+    )
+    refl

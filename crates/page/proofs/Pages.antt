@@ -1,13 +1,14 @@
 -- Laws of `Paged`: nothing, one run after another, a store of more bytes than are put, and a page that is copied into a buffer.
 use Prim.Native.Nat.{ℕ, ◌+◌, ◌-◌, ◌≤◌, min}
 use mathlib.Core.Path.{◌≡◌, refl, sym, ap, ◌∙◌, subst}
-use mathlib.Core.Bool.{true, false, cond}
+use mathlib.Core.Bool.{true, cond}
 use lib.Dec.{leb}
 use borrow.Author.Tests.{leb-true, leb-false}
 use Rattle.kit.proofs.Cases.{on}
 use Rattle.kit.proofs.Contracts.{agree}
 use mathlib.Core.List.{List, [], ◌++◌, append-nil, append_assoc}
-use lib.ListN.{length, take, drop, length-append}
+use Rattle.std.specs.Int.{w32, to_be_bytes}
+use lib.ListN.{length, get_or, take, drop, length-append}
 use lib.Seq.{sets, take_all, sets-eq, length-take-le, take-append-le, take-append-add}
 use native.Mathlib.Omega.{arith}
 use Rattle.kit.specs.Each.{each}
@@ -16,7 +17,11 @@ use Rattle.kit.proofs.Each.{each_next}
 use Rattle.kit.proofs.Put.{put_then, poured_as}
 use Rattle.page.specs.Pages.{Paged, Laid}
 use Rattle.page.specs.Packed.{low_bytes}
-use Rattle.page.proofs.Packed.{low-length, low-take}
+use Rattle.page.specs.Words.{bytes_of_word}
+use Rattle.page.specs.declared.Word.{Word}
+use Rattle.text.specs.Hexadecimals.{hexadecimal}
+use Rattle.text.proofs.Numerals.{hexadecimal-long}
+use Rattle.page.proofs.Packed.{low-length, low-take, hex_pair, eight_hex}
 
 pub paged-none : {l : List ℕ} {i : ℕ} → Paged 0 l i [] l i
 paged-none {l} {i} = record { held = sym (append-nil (take i l)); past = omega arith; within = omega arith }
@@ -88,11 +93,42 @@ take_min n most l long =
 
 -- ---- with a test of the room
 
-pub laid_full : {w x : ℕ} {l : List ℕ} {i : ℕ} {a s : List ℕ} → leb (i + w) (length l) ≡ false → Laid w x l i a s l i
-laid_full {w} {x} {l} {i} e = record { exact = rw e refl; place = rw e refl; paged = λ room. absurd (omega (arith, leb-false (i + w) (length l) e)) }
+-- the lowest bytes of a number are stored, and the first ones of them put
+pub ruleset lows = (low-length, paged-low)
 
-pub laid_room : {w x : ℕ} {l m : List ℕ} {i j : ℕ} {a s : List ℕ} → leb (i + w) (length l) ≡ true → m ≡ sets l i s → Paged x l i a m j → Laid w x l i a s m j
-laid_room e same put = record { exact = rw e same; place = rw e put.past; paged = λ room. put }
+-- the digits of four bytes are stored, one byte's after another's
+pub digits_stored : (l bytes : List ℕ) (i number : ℕ) {m n o p : List ℕ} → bytes ≡ to_be_bytes w32 number → m ≡ sets l i (hex_pair (get_or bytes 0 0))
+    → n ≡ sets m (i + 2) (hex_pair (get_or bytes 1 0)) → o ≡ sets n (i + 4) (hex_pair (get_or bytes 2 0)) → p ≡ sets o (i + 6) (hex_pair (get_or bytes 3 0))
+    → p ≡ sets l i (hexadecimal 8 number)
+digits_stored l bytes i number same first second third fourth =
+    let of : ℕ → List ℕ = λ k. hex_pair (get_or bytes k 0) in
+    let two = sets-twice l i (of 0) (of 1) first refl second in
+    let three = sets-twice l i (of 0 ++ of 1) (of 2) two refl third in
+    let four = sets-twice l i ((of 0 ++ of 1) ++ of 2) (of 3) three refl fourth in
+    four
+    ∙ (ap (λ b. sets l i (((hex_pair (get_or b 0 0) ++ hex_pair (get_or b 1 0)) ++ hex_pair (get_or b 2 0)) ++ hex_pair (get_or b 3 0))) same
+    ∙ ap (sets l i) (eight_hex number))
+
+-- eight digits are stored, and all of them are put
+pub paged-digits : (l : List ℕ) (i number : ℕ) {m : List ℕ} → i + 8 ≤ length l → m ≡ sets l i (hexadecimal 8 number) → Paged 8 l i (hexadecimal 8 number) m (i + 8)
+paged-digits l i number room same =
+    let long : length (hexadecimal 8 number) ≡ 8 = hexadecimal-long 8 number in
+    paged_as (sym (take_all 8 (hexadecimal 8 number) (omega arith))) (paged-stored l i (hexadecimal 8 number) 8 (omega arith) (omega arith) same)
+
+pub ruleset digits = (hexadecimal-long, paged-digits)
+
+-- sixteen bytes are stored, eight and eight, and the first ones of them put
+pub laid_word : (word : Word) {l m n : List ℕ} {i few : ℕ} → true ≡ leb (i + 16) (length l) → m ≡ sets l i (low_bytes 8 word.low) → n ≡ sets m (i + 8) (low_bytes 8 word.high)
+    → few ≡ min word.count 16 → Laid 16 16 l i (bytes_of_word word) (low_bytes 8 word.low ++ low_bytes 8 word.high) n (i + few)
+unfolding bytes_of_word
+laid_word word {l} {m} {n} {i} {few} room first second count =
+    let stored = low_bytes 8 word.low ++ low_bytes 8 word.high in
+    let eight : length (low_bytes 8 word.low) ≡ 8 = low-length 8 word.low in
+    let both : length stored ≡ 16 = omega (arith, eight, low-length 8 word.high, length-append (low_bytes 8 word.low) (low_bytes 8 word.high)) in
+    let same = sets-twice l i (low_bytes 8 word.low) (low_bytes 8 word.high) first (omega arith) second in
+    let shown : take word.count stored ≡ take few stored = sym (ap (λ n. take n stored) count ∙ take_min word.count 16 stored both) in
+    let put = paged-most (omega arith) (paged_as shown (paged-stored l i stored few (omega (arith, leb-true (i + 16) (length l) (sym room))) (omega arith) same)) in
+    record { exact = rw (sym room) same; place = rw (sym room) put.past; paged = λ _. put }
 
 -- within a bound that the bytes keep
 pub laid_tight : {w x y : ℕ} {l m : List ℕ} {i j : ℕ} {a s : List ℕ} → length a ≤ y → Laid w x l i a s m j → Laid w y l i a s m j
@@ -108,8 +144,11 @@ laid_as {w} {x} {y} {l} {m} {i} {j} {a} {b} {s} {t} put stored le laid =
     }
 
 -- a page filled from its start, copied into a buffer as far as it is filled, pours what was put on the page
+pub paged_filled : {x : ℕ} {p l m : List ℕ} {page : List ℕ} {next at j : ℕ} {bytes : List ℕ} → Paged x p 0 bytes page next → Poured l at (take next page) m j → Poured l at bytes m j
+paged_filled put copied = poured_as (sym put.held) copied
+
 pub paged-poured : {x : ℕ} {p l m : List ℕ} {page : List ℕ} {next at j : ℕ} {bytes : List ℕ} → Paged x p 0 bytes page next → Poured l at (take (next - 0) page) m j → Poured l at bytes m j
-paged-poured {page = page} {next} put copied = let whole : next ≡ next - 0 = omega arith in poured_as (sym put.held ∙ ap (λ n. take n page) whole) copied
+paged-poured {page = page} {next} put copied = let whole : next - 0 ≡ next = omega arith in paged_filled put (poured_as (ap (λ n. take n page) (sym whole)) copied)
 
 -- ---- one answer
 

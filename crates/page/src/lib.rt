@@ -16,37 +16,30 @@ ghost use Rattle.page.specs.Packed.{Small, low_bytes, number_made, digits_before
 fn has_room(size: usize, at: usize, width: usize) -> bool
     ensures { result ≡ leb (at + width) size }
 {
-    if size < width {
-        return false;
-    }
-    at <= size - width
+    width <= size && at <= size - width
 }
 
 // Eight bytes, the lowest first.
+#[tactic(auto, using(crate::proofs::Packed::eight_stored))]
 fn put_eight(page: &mut [u8], at: usize, piece: u64)
     requires { at + 8 ≤ length page.old }
     ensures { page.new ≡ sets page.old at (low_bytes 8 piece) }
 {
-    page[at] = (piece % 256) as u8;
-    page[at + 1] = (piece / 0x100 % 256) as u8;
-    page[at + 2] = (piece / 0x10000 % 256) as u8;
-    page[at + 3] = (piece / 0x1000000 % 256) as u8;
-    page[at + 4] = (piece / 0x100000000 % 256) as u8;
-    page[at + 5] = (piece / 0x10000000000 % 256) as u8;
-    page[at + 6] = (piece / 0x1000000000000 % 256) as u8;
-    page[at + 7] = (piece / 0x100000000000000 % 256) as u8;
+    page[at..at + 8].copy_from_slice(&piece.to_le_bytes());
 }
 
 // The lowest `count` bytes of a piece.
+#[tactic(auto, using(crate::proofs::Pages::lows))]
 fn put_piece(page: &mut [u8], at: usize, piece: u64, count: usize) -> usize
     requires { count ≤ 8 }
     ensures { Laid 8 count page.old at (low_bytes count piece) (low_bytes 8 piece) page.new result }
 {
     if has_room(page.len(), at, 8) {
         put_eight(page, at, piece);
-        return at + count;
+        at + count
+    } else {
+        at
     }
-    at
 }
 
 // A byte where it is wanted. It is stored in any case, so that no branch is taken.
@@ -55,9 +48,10 @@ pub fn put_byte_if(page: &mut [u8], at: usize, byte: u8, wanted: bool) -> usize
 {
     if at < page.len() {
         page[at] = byte;
-        return at + wanted as usize;
+        at + wanted as usize
+    } else {
+        at
     }
-    at
 }
 
 pub fn put_byte(page: &mut [u8], at: usize, byte: u8) -> usize
@@ -67,6 +61,7 @@ pub fn put_byte(page: &mut [u8], at: usize, byte: u8) -> usize
 }
 
 // How many digits come before the last one.
+#[tactic(auto, unfolding(crate::specs::Packed::digits_before))]
 fn more(n: u64) -> u64
     requires { n < 65536 }
     ensures { (result ≡ digits_before n) × (result ≤ 4) }
@@ -116,14 +111,15 @@ pub fn put_short_number(page: &mut [u8], at: usize, number: u8, after: u8) -> us
     ensures { Laid 8 4 page.old at (decimal number ++ (after ∷ [])) (low_bytes 8 (number_made (decimal number ++ (after ∷ ascii "00")))) page.new result }
 {
     if number < 10 {
-        return put_piece(
+        put_piece(
             page,
             at,
             (48 + number as u64) + after as u64 * 0x100 + 0x30300000,
             2,
-        );
+        )
+    } else {
+        put_digits(page, at, number as u16, after, true)
     }
-    put_digits(page, at, number as u16, after, true)
 }
 
 // A number in decimal, and nothing after it.
@@ -133,24 +129,13 @@ pub fn put_bare_number(page: &mut [u8], at: usize, number: u16) -> usize
     put_digits(page, at, number, b'0', false)
 }
 
-fn at_most(count: usize, most: usize) -> usize
-    ensures { result ≡ min count most }
-{
-    if count < most {
-        return count;
-    }
-    most
-}
-
 // Eight bytes of a text from `from` on, or as many as it has, as a number, the first one lowest.
 fn piece_of(words: &[u8], from: usize) -> u64
     requires { from ≤ 8 }
     ensures { (result ≡ number_made (take 8 (drop from words.now))) × Small (take 8 (drop from words.now)) }
 {
     let mut piece: u64 = 0;
-    let mut i = at_most(words.len(), from + 8);
-    while i > from {
-        i -= 1;
+    for i in (from..words.len().min(from + 8)).rev() {
         piece = piece * 256 + words[i] as u64;
     }
     piece
@@ -160,7 +145,7 @@ fn piece_of(words: &[u8], from: usize) -> u64
 pub fn put_short_text(page: &mut [u8], at: usize, words: &[u8]) -> usize
     ensures { Laid 8 8 page.old at (take 8 words.now) (low_bytes 8 (number_made (take 8 words.now))) page.new result }
 {
-    put_piece(page, at, piece_of(words, 0), at_most(words.len(), 8))
+    put_piece(page, at, piece_of(words, 0), words.len().min(8))
 }
 
 // A word of at most sixteen bytes: the first eight of them, the others, each the lowest first, and how many there are.
@@ -172,6 +157,7 @@ pub struct Word {
 }
 
 // The first sixteen bytes of a text.
+#[tactic(auto, unfolding(crate::specs::Words::packed_word))]
 pub fn word_of(words: &[u8]) -> Word
     ensures { result ≡ packed_word words.now }
 {
@@ -180,7 +166,7 @@ pub fn word_of(words: &[u8]) -> Word
     Word {
         low,
         high,
-        count: at_most(words.len(), 16),
+        count: words.len().min(16),
     }
 }
 
@@ -190,9 +176,10 @@ pub fn put_word(page: &mut [u8], at: usize, word: Word) -> usize
     if has_room(page.len(), at, 16) {
         put_eight(page, at, word.low);
         put_eight(page, at + 8, word.high);
-        return at + at_most(word.count, 16);
+        at + word.count.min(16)
+    } else {
+        at
     }
-    at
 }
 
 // A digit in hexadecimal.
@@ -213,23 +200,27 @@ fn put_two(page: &mut [u8], at: usize, byte: u8)
 }
 
 // The eight digits of a number.
+#[tactic(auto, using(crate::proofs::Pages::digits_stored))]
 fn put_all_digits(page: &mut [u8], at: usize, number: u32)
     requires { at + 8 ≤ length page.old }
     ensures { page.new ≡ sets page.old at (hexadecimal 8 number) }
 {
-    put_two(page, at, (number / 0x1000000) as u8);
-    put_two(page, at + 2, (number / 0x10000 % 256) as u8);
-    put_two(page, at + 4, (number / 0x100 % 256) as u8);
-    put_two(page, at + 6, (number % 256) as u8);
+    let [first, second, third, fourth] = number.to_be_bytes();
+    put_two(page, at, first);
+    put_two(page, at + 2, second);
+    put_two(page, at + 4, third);
+    put_two(page, at + 6, fourth);
 }
 
 // Eight digits of a number in hexadecimal, leading zeros too.
+#[tactic(auto, using(crate::proofs::Pages::digits))]
 pub fn put_hexadecimal(page: &mut [u8], at: usize, number: u32) -> usize
     ensures { Laid 8 8 page.old at (hexadecimal 8 number) (hexadecimal 8 number) page.new result }
 {
     if has_room(page.len(), at, 8) {
         put_all_digits(page, at, number);
-        return at + 8;
+        at + 8
+    } else {
+        at
     }
-    at
 }

@@ -6,41 +6,34 @@ ghost use Rattle.std.specs.Prelude.{[], ◌∷◌, length, take, ◌+◌, ◌<�
 ghost use Rattle.kit.specs.Put.{Put, Poured};
 ghost use Rattle.text.specs.Decimals.{decimal};
 
+// What stands between words, and what ends a line.
+pub const BLANK: u8 = b' ';
+
+pub const LINE_FEED: u8 = b'\n';
+
 pub fn put_byte(buffer: &mut [u8], at: usize, byte: u8) -> usize
     ensures { Poured buffer.old at (byte ∷ []) buffer.new result }
 {
     if at < buffer.len() {
         buffer[at] = byte;
-        return at + 1;
+        at + 1
+    } else {
+        buffer.len()
     }
-    buffer.len()
 }
 
-// Words: one test says how many of their bytes have room.
+// Words: one minimum says how many of their bytes have room.
+#[tactic(auto, using(crate::proofs::Copies::copied, kit::proofs::Put::poured_full))]
 pub fn put_words(buffer: &mut [u8], at: usize, words: &[u8]) -> usize
     ensures { Poured buffer.old at words.now buffer.new result }
 {
     if at < buffer.len() {
-        let room = buffer.len() - at;
-        if words.len() <= room {
-            return copy_words(buffer, at, words, words.len());
-        }
-        return copy_words(buffer, at, words, room);
+        let end = at + words.len().min(buffer.len() - at);
+        buffer[at..end].copy_from_slice(&words[..end - at]);
+        end
+    } else {
+        buffer.len()
     }
-    buffer.len()
-}
-
-// The first bytes of words, so many, all of which have room.
-fn copy_words(buffer: &mut [u8], at: usize, words: &[u8], count: usize) -> usize
-    requires { (at + count ≤ length buffer.old) × (count ≤ length words.now) }
-    ensures { Put buffer.old at (take count words.now) buffer.new result }
-{
-    let mut i: usize = 0;
-    while i < count {
-        buffer[at + i] = words[i];
-        i += 1;
-    }
-    at + count
 }
 
 // A number in decimal, without leading zeros.

@@ -1,6 +1,6 @@
 -- `bite`: the bytes are put behind those that were kept. With 26 of them the telegram is heard, otherwise all are kept.
 use Prim.Native.Nat.{ℕ, ◌+◌, ◌<◌, ◌≤◌}
-use mathlib.Core.Path.{◌≡◌, ap, sym, ◌∙◌}
+use mathlib.Core.Path.{◌≡◌, refl, ap, sym, ◌∙◌}
 use mathlib.Core.List.{List, [], ◌∷◌, ◌++◌}
 use lib.ListN.{length}
 use native.Mathlib.Omega.{arith}
@@ -43,4 +43,4 @@ returns-then-kept-ge-LENGTH c =
 pub returns : goal.returns
 returns c =
     let p = c.put_words-kept.ensures in
-    part c.requires.0 c.requires.1 p (search rules) c.put_words-next.ensures
+    part c.requires.0 c.requires.1 p (search rules) (record { stored = refl; past = search rules })

@@ -14,8 +14,8 @@ returns c =
     let meant = c.hear_in-answer.ensures.meant in (
       record {
         means = ap (λ h. h.listener) meant;
-        counts = c.tally-tables.ensures ∙ ap (λ n. min (a.tables + n) most_tables) (c.tables_of.ensures ∙ ap (λ h. tables_of h.told) meant);
+        counts = c.saturating_add.ensures ∙ ap (λ n. min (a.tables + n) most_tables) (c.tables_of.ensures ∙ ap (λ h. tables_of h.told) meant);
       },
-      poured_as (sym (ap heard_lines meant)) c.put_heard-next.ensures,
+      poured_as (sym (ap heard_lines meant)) c.put_heard.ensures,
       c.hear_in-answer.ensures,
     )

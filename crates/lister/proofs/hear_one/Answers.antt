@@ -23,7 +23,7 @@ returns c =
       set = search rules;
     } in
     let same : listener_in c.memory_of-memory.result ≡ listener = ap listener_in c.memory_of-memory.ensures ∙ means-back listener sized in (
-      ap (λ l. state l c.hear_next-next.result.tables (padded []) 0) c.listener_in-listener.ensures
+      ap (λ l. state l c.hear_next-next.result.tables (padded []) 0) c.listener_in.ensures
           ∙ next-heard lister telegram _ _ _ same c.hear_next-next.ensures.0,
       poured_as (next-lines lister telegram _ same) c.hear_next-next.ensures.1,
     )

@@ -1,27 +1,25 @@
 -- `put_picture`: after i turns the lines of the first i slots are put.
-use mathlib.Core.Path.{◌≡◌, refl, ap, ap₂, sym}
+use mathlib.Core.Path.{◌≡◌, ap, ap₂, sym}
 use native.Mathlib.Omega.{arith}
 use Rattle.kit.specs.Each.{each}
 use Rattle.page.proofs.Pages.{paged-none, paged_as, paged-most, paged-each}
 use Rattle.listing_entries.specs.Entries.{entry_line}
 use Rattle.listing_tables.specs.Tables.{picture_lines}
-use borrow.Author.Rules.{rules}
 use Rattle.listing_tables.proofs.put_picture.Invariants.{lines}
+use borrow.Author.Rules.{rules}
 use Rattle.listing_tables.proofs.put_picture.Goals as goal
 
 pub loop-i-init : goal.loop-i-init
 unfolding each
-loop-i-init c = (search rules, refl, paged-none)
+loop-i-init c = paged-none
 
 pub loop-i-preserved : goal.loop-i-preserved
 loop-i-preserved c =
-    let memory = c.args.memory.now in
     let line = ap₂ (entry_line c.loop-i.i) c.shown_slot-slot.ensures c.is_marked-carried.ensures in
-    (search rules, search rules, paged-each (lines memory) c.loop-i.i (omega arith) c.loop-i.invariant.2 (paged_as (sym line) c.put_entry-next.ensures))
+    paged-each (lines c.args.memory.now) c.loop-i.i (omega arith) c.loop-i.invariant (paged_as (sym line) c.put_entry-next.ensures)
 
 pub returns : goal.returns
 unfolding picture_lines
 returns c =
-    let memory = c.args.memory.now in
     let all : c.loop-i.i ≡ 20 = search rules in
-    paged_as (ap (each (lines memory) 0) (sym all)) (paged-most (omega arith) c.loop-i.invariant.2)
+    paged_as (ap (each (lines c.args.memory.now) 0) (sym all)) (paged-most (omega arith) c.loop-i.invariant)

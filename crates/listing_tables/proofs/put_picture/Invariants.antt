@@ -1,8 +1,6 @@
 -- `put_picture`: after i turns the lines of the first i slots are put.
-use Prim.Native.Nat.{ℕ, ◌*◌, ◌-◌, ◌≤◌}
+use Prim.Native.Nat.{ℕ, ◌*◌}
 use mathlib.Core.List.{List}
-use mathlib.Core.Path.{◌≡◌}
-use lib.ListN.{length}
 use Rattle.kit.specs.Each.{each}
 use Rattle.page.specs.Pages.{Paged}
 use Rattle.memory.specs.Memory.{picture_in, marks_in}
@@ -14,7 +12,4 @@ abbrev pub lines : List ℕ → ℕ → List ℕ
 lines memory = entry_at (picture_in memory) (marks_in memory)
 
 abbrev pub invariant-loop-i : goal.invariant-loop-i
-invariant-loop-i l = (l.i ≤ 20) × (length l.page ≡ length l.initial.page) × Paged (37 * l.i) l.initial.page l.initial.next (each (lines l.memory) 0 l.i) l.page l.next
-
-abbrev pub decreases-loop-i : goal.decreases-loop-i
-decreases-loop-i l = 20 - l.i
+invariant-loop-i l = Paged (37 * l.i) l.initial.page l.initial.next (each (lines l.memory) 0 l.i) l.page l.next

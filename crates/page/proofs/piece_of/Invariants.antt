@@ -12,6 +12,3 @@ left words from i = drop (i - from) (take 8 (drop from words))
 
 abbrev pub invariant-loop-i : goal.invariant-loop-i
 invariant-loop-i l = (l.i ≤ min (length l.words) (l.from + 8)) × (l.piece ≡ number_made (left l.words l.from l.i)) × Small (left l.words l.from l.i)
-
-abbrev pub decreases-loop-i : goal.decreases-loop-i
-decreases-loop-i l = l.i

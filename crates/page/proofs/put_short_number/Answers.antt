@@ -13,6 +13,6 @@ returns-then-number-lt10 c =
     let piece = one_piece number after c.if-number-lt10.true in
     laid_as (one-shown number after c.if-number-lt10.true c.ranges.after.fits ∙ ap (low_bytes 2) piece) (ap (low_bytes 8) piece) (omega arith) c.put_piece.ensures
 
-pub returns : goal.returns
-returns c =
+pub returns-else-number-lt10 : goal.returns-else-number-lt10
+returns-else-number-lt10 c =
     laid_tight (byte_then c.args.number c.args.after c.ranges.number.fits) c.put_digits.ensures

@@ -11,7 +11,7 @@ pub returns : goal.returns
 returns c =
     let words = c.args.words.now in
     let piece = c.piece_of in
-    let count = c.at_most in
+    let count = c.min in
     let put : take 8 words ≡ low_bytes count.result piece.result = rw (count.ensures, piece.ensures.0) (packed_first words piece.ensures.1) in
     let stored : low_bytes 8 (number_made (take 8 words)) ≡ low_bytes 8 piece.result = ap (low_bytes 8) (sym piece.ensures.0) in
     laid_as put stored (omega (arith, count.ensures)) c.put_piece.ensures

@@ -10,8 +10,8 @@ use Rattle.listing_tables.proofs.entries.put_distance.Goals as goal
 pub returns-then-word-eq-NO_VALUE : goal.returns-then-word-eq-NO_VALUE
 returns-then-word-eq-NO_VALUE c = paged_as (distance_none _ c.if-word-eq-NO_VALUE.true) (paged-most (omega arith) c.put_none.ensures)
 
-pub returns : goal.returns
-returns c =
+pub returns-else-word-eq-NO_VALUE : goal.returns-else-word-eq-NO_VALUE
+returns-else-word-eq-NO_VALUE c =
     let sign = c.put_byte_if-next.ensures.paged (omega arith) in
     let metres = c.put_number.ensures.paged (omega arith) in
     paged_as (distance_signed _ c.if-word-eq-NO_VALUE.false) (paged-then sign (paged_as (ap (λ n. number_then n blank) (sym c.metres.ensures)) metres))
