@@ -3,7 +3,7 @@ use Prim.Native.Nat.{◌≤◌}
 use mathlib.Core.Path.{sym, ◌∙◌}
 use native.Mathlib.Omega.{arith}
 use Rattle.wire.specs.Verdicts.{row_number}
-use Rattle.wire.proofs.Answers.{number-positive}
+use Rattle.wire.proofs.Results.{number-positive}
 use Rattle.listener.proofs.Lent.{left-accepted, left-refused}
 use Rattle.listener.proofs.hear_in.Goals as goal
 
