@@ -54,25 +54,7 @@ fn take(system: System, signals: &mut Signals, telegram: Option<&[u8]>) -> bool
     show_line(system, updated)
 }
 
-<<<<<<< HEAD
-// Hands one call to the record, which is lent for it, and shows the answer.
-#[tactic(auto, unfolding(signals::specs::Signals::update_of))]
-fn take(rt: &HostRuntime, signals: Signals, present: bool, telegram: &[u8]) -> Taken
-    ensures { result.signals ≡ (update_of signals present telegram.now).signals }
-{
-    let updated = signals_in_place::lend_and_update(signals, present.then_some(telegram));
-    let written = show_line(rt, updated);
-    let next = updated.signals;
-    Taken {
-        signals: next,
-        written,
-    }
-}
-
-fn show_line(rt: &HostRuntime, updated: Updated) -> bool {
-=======
 fn show_line(system: System, updated: Updated) -> bool {
->>>>>>> 647b4b1664c0d6bdb77d44c8b32c0624dd5bcc9d
     let mut line = [0u8; 256];
     let n = signals_output::put_line(updated, &mut line, 0);
     system.write(Output::Standard, &line[..n])

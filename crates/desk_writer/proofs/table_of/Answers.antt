@@ -1,6 +1,6 @@
 -- `table_of`: the map gives each place's slot.
 use Rattle.std.proofs.Common.{◌≡◌, length, rules}
-use Rattle.order_list.proofs.Arrays.{mapped-all}
+use Rattle.kit.proofs.Arrays.{mapped-all}
 use Rattle.condition.specs.Slots.{empty_slot}
 use Rattle.places.specs.Places.{free_place}
 use Rattle.places.specs.declared.Place.{Place}

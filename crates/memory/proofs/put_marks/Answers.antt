@@ -6,7 +6,7 @@ use lib.Seq.{sets}
 use native.Mathlib.Omega.{arith}
 use Rattle.condition.specs.Slots.{slot_count}
 use Rattle.memory.specs.Memory.{memory_size, marks_from, flag_byte, with_marks}
-use Rattle.memory.proofs.Made.{mapped}
+use Rattle.kit.proofs.Arrays.{mapped-all}
 use Rattle.memory.proofs.Parts.{part-stored}
 use borrow.Author.Rules.{rules}
 use Rattle.memory.proofs.put_marks.Goals as goal
@@ -17,6 +17,6 @@ returns c =
     let a = c.args in
     let long : length a.memory.now ≡ memory_size = search rules in
     let all : length a.marks ≡ slot_count = search rules in
-    let put = c.copy_from_slice.ensures.after ∙ mapped _ flag_byte _ (λ x y q called. search rules) a.marks _ slot_count false 0 all c.map.ensures.items in
+    let put = c.copy_from_slice.ensures.after ∙ mapped-all _ _ flag_byte (λ x y q k. search rules) a.marks _ false 0 slot_count all c.map.ensures.items in
     part-stored a.memory.now marks_from c.copy_from_slice.new.self slot_count (omega (arith, ap length put, length-map a.marks flag_byte, all)) (omega (arith, long))
     ∙ ap (λ part. sets a.memory.now marks_from part) put
