@@ -31,7 +31,7 @@ fn run(source: &Source, begun: Progress) {
         let mut bytes = [0u8; 65535];
         match source.read_call(None, &mut bytes) {
             Ok(Some(list)) => {
-                progress = system.went_on(progress, list.len() + 2);
+                progress = system.went_on(progress, frames::LENGTH + list.len());
                 if !take(system, &mut desk, list, lists) {
                     return;
                 }

@@ -1,6 +1,6 @@
 -- `hand_over`: in each buffer, what is poured and what comes of what is left of the input make the whole, turn by turn; so does the desk so far,
 -- taken on through what is left; it stays one that was made, and no more lists are counted than bytes are taken; each turn leaves less.
-use Prim.Native.Nat.{ℕ, ◌+◌, ◌≤◌}
+use Prim.Native.Nat.{ℕ, ◌+◌}
 use mathlib.Core.Path.{◌≡◌, refl, sym, ap, ap₂, ◌∙◌, subst, subst⁻¹}
 use mathlib.Core.List.{List}
 use lib.ListN.{length, length-drop}
