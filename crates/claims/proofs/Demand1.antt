@@ -10,9 +10,7 @@ use borrow.Author.Tests.{ne_eqb}
 use Rattle.kit.specs.Ladder.{NoneHolds}
 use Rattle.kit.proofs.Cases.{given}
 use Rattle.kit.proofs.Contracts.{agree, both_facts}
-use Rattle.wire.specs.Verdicts.{ruled_refused, ruling_of}
-use Rattle.wire.specs.declared.verdicts.Verdict.{Verdict}
-use Rattle.wire.specs.declared.verdicts.Verdict.TheVariants.{Refused}
+use Rattle.wire.specs.Verdicts.{Verdict, Refused, ruled_refused, ruling_of}
 use Rattle.wire.proofs.Answers.{ruling_apart}
 use Rattle.telegram.specs.Telegrams.{read_rows, write_rows}
 use Rattle.telegram.proofs.Refusals.{reading_refused, writing_refused, refused_untouched}

@@ -9,16 +9,14 @@ use lib.ListN.{length, get_or}
 use Rattle.kit.specs.Bytes.{Bytes, bit}
 use Rattle.kit.proofs.Cases.{given}
 use Rattle.wire.specs.Distances.{InRange, distance_word}
-use Rattle.wire.specs.declared.verdicts.Verdict.TheVariants.{Accepted}
-use Rattle.wire.specs.Verdicts.{ruling_of}
+use Rattle.wire.specs.Verdicts.{Accepted, ruling_of}
 use Rattle.wire.proofs.Answers.{ruling_apart}
 use Rattle.wire.proofs.Metres.{word-said}
 use Rattle.condition.specs.Slots.{MayHold, settled, coded_of}
 use Rattle.condition.proofs.Coding.{coded-back}
 use Rattle.telegram.specs.Sendable.{slot_on, may_alter}
 use Rattle.telegram.specs.Tables.{table_slot}
-use Rattle.telegram.specs.Telegrams.{coded_at, telegram_of as meant, bytes_of, read_of, write_verdict, written}
-use Rattle.telegram.specs.declared.Reading.{Reading}
+use Rattle.telegram.specs.Telegrams.{Reading, coded_at, telegram_of as meant, bytes_of, read_of, write_verdict, written}
 use Rattle.telegram.proofs.Carried.{slot-carried}
 use Rattle.telegram.proofs.Refusals.{reading_accepted, accepted-written, accepted-asked, packet_fills}
 use Rattle.telegram.proofs.Valid.{length-read, slot_read, slot-meant, never_invalid, accepted-means, accepted_sendable}

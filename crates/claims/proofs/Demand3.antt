@@ -3,8 +3,7 @@ use mathlib.Core.Path.{sym, ap, ◌∙◌}
 use mathlib.Core.List.{List}
 use Prim.Native.Nat.{ℕ}
 use native.Mathlib.Omega.{arith}
-use Rattle.wire.specs.Verdicts.{ruling_of}
-use Rattle.wire.specs.declared.verdicts.Verdict.TheVariants.{Accepted}
+use Rattle.wire.specs.Verdicts.{Accepted, ruling_of}
 use Rattle.wire.proofs.Answers.{ruling_apart}
 use Rattle.telegram.proofs.ReadAgain.{read_again}
 use Rattle.telegram.proofs.Refusals.{accepted-written, packet-accepted}

@@ -8,7 +8,7 @@ use mathlib.Core.Bool.{true}
 use mathlib.Core.List.{List, [], ◌∷◌}
 use native.Mathlib.Omega.{arith}
 use Rattle.kit.proofs.Cases.{clash, given}
-use Rattle.wire.specs.declared.verdicts.Verdict.TheVariants.{Accepted}
+use Rattle.wire.specs.Verdicts.{Accepted}
 use Rattle.telegram.specs.Tables.{table_slot, four_of}
 use Rattle.telegram.specs.Sendable.{Sendable}
 use Rattle.telegram.specs.declared.Telegram.{Telegram}

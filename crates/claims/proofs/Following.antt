@@ -12,9 +12,8 @@ use borrow.Author.Tests.{eqb-true, eqb-false, eq-eqb, ne_eqb}
 use Rattle.kit.proofs.Cases.{on, clash, given}
 use Rattle.wire.proofs.Answers.{ruling_apart}
 use Rattle.wire.specs.Steps.{steps}
-use Rattle.wire.specs.Verdicts.{number_of}
+use Rattle.wire.specs.Verdicts.{Accepted, Refused, number_of}
 use Rattle.condition.specs.declared.slots.Slot.{Slot}
-use Rattle.wire.specs.declared.verdicts.Verdict.TheVariants.{Accepted, Refused}
 use Rattle.telegram.specs.Tables.{first_packet, four_of}
 use Rattle.condition.specs.Slots.{slot_count}
 use Rattle.telegram.specs.declared.Telegram.{Telegram}

@@ -1,7 +1,7 @@
 -- What specs/Functions.antt says of a function, without the checker's own terms: a contract that is an equation promises something of
 -- every outcome that it allows exactly when that is so, whatever is handed in, of the outcome that the equation gives.
 use Prim.Native.Nat.{ℕ}
-use mathlib.Core.Path.{◌≡◌, refl, subst⁻¹}
+use mathlib.Core.Path.{◌≡◌, refl, subst, subst⁻¹}
 use mathlib.Core.Logic.{◌↔◌}
 use mathlib.Core.Bool.{Bool}
 use mathlib.Core.List.{List, []}
@@ -9,11 +9,11 @@ use contract.Monad.{fact_mono}
 use denote.Ref.{Bor, MutBor}
 use Rattle.wire.specs.Distances.{distance_of}
 use Rattle.wire.specs.declared.distances.Distance.{Distance}
-use Rattle.wire.specs.declared.verdicts.Verdict.{Verdict}
+use Rattle.wire.specs.Verdicts.{Verdict}
 use Rattle.condition.specs.declared.slots.Slot.{Slot}
-use Rattle.telegram.specs.Telegrams.{read_of, write_verdict, written}
-use Rattle.telegram.specs.declared.Reading.{Reading}
+use Rattle.telegram.specs.Telegrams.{Reading, read_of, write_verdict, written}
 use Rattle.telegram.specs.declared.Telegram.{Telegram}
+use Rattle.telegram.proofs.Readings.{read_answer, write_answer}
 use Rattle.desk.specs.Desks.{base_rest, fresh_desk, accept_of, table_of, packet_of}
 use Rattle.desk.specs.declared.Answer.{Answer}
 use Rattle.desk.specs.declared.Desk.{Desk}
@@ -46,8 +46,8 @@ distance_says Such = (
 
 pub read-says : (Such : List ℕ → Reading → Type 0) → OfRead Such ↔ ((bytes : List ℕ) → Such bytes (read_of bytes))
 read-says Such = (
-  λ promised bytes. promised ([], tt) (lent bytes, tt) (read_of bytes) (tt, tt) refl,
-  λ plain κs (bytes, _) reading lasts p. subst⁻¹ (Such bytes.now) p (plain bytes.now),
+  λ promised bytes. let a = read_answer bytes in subst (Such bytes) a.1 (promised ([], tt) (lent bytes, tt) a.0 (tt, tt) a.1),
+  λ plain κs (bytes, _) answer lasts p. subst⁻¹ (Such bytes.now) p (plain bytes.now),
 )
 
 pub fresh_desk-says : (Such : Desk → Type 0) → OfFreshDesk Such ↔ Such fresh_desk
@@ -84,8 +84,11 @@ fresh_signals-says Such = (
 pub write-telegram-says : (Such : Telegram → List ℕ → Verdict → List ℕ → Type 0)
     → OfWriteTelegram Such ↔ ((telegram : Telegram) (buffer : List ℕ) → Such telegram buffer (write_verdict telegram buffer) (written telegram buffer))
 write-telegram-says Such = (
-  λ promised telegram buffer. promised ([], tt) (telegram, (lent_out buffer, tt)) (write_verdict telegram buffer) (tt, (written telegram buffer, tt)) (refl, refl),
-  λ plain κs (telegram, (buffer, _)) verdict (_, (after, _)) p.
+  λ promised telegram buffer.
+      let a = write_answer telegram buffer in
+      subst (λ v. Such telegram buffer v (written telegram buffer)) a.1
+      (promised ([], tt) (telegram, (lent_out buffer, tt)) a.0 (tt, (written telegram buffer, tt)) (a.1, refl)),
+  λ plain κs (telegram, (buffer, _)) answer (_, (after, _)) p.
       subst⁻¹ (λ v. Such telegram buffer.now v after) p.0 (subst⁻¹ (Such telegram buffer.now (write_verdict telegram buffer.now)) p.1 (plain telegram buffer.now)),
 )
 
@@ -93,8 +96,10 @@ pub write-says : (Such : Desk → ℕ → List ℕ → Verdict → List ℕ → 
     → OfWrite Such ↔ ((desk : Desk) (packet : ℕ) (buffer : List ℕ) → Such desk packet buffer (write_verdict (packet_of desk packet) buffer) (written (packet_of desk packet) buffer))
 write-says Such = (
   λ promised desk packet buffer.
-      promised ([], tt) (desk, (packet, (lent_out buffer, tt))) (write_verdict (packet_of desk packet) buffer) (tt, (tt, (written (packet_of desk packet) buffer, tt))) (refl, refl),
-  λ plain κs (desk, (packet, (buffer, _))) verdict (_, (_, (after, _))) p.
+      let a = write_answer (packet_of desk packet) buffer in
+      subst (λ v. Such desk packet buffer v (written (packet_of desk packet) buffer)) a.1
+      (promised ([], tt) (desk, (packet, (lent_out buffer, tt))) a.0 (tt, (tt, (written (packet_of desk packet) buffer, tt))) (a.1, refl)),
+  λ plain κs (desk, (packet, (buffer, _))) answer (_, (_, (after, _))) p.
       subst⁻¹ (λ v. Such desk packet buffer.now v after) p.0
       (subst⁻¹ (Such desk packet buffer.now (write_verdict (packet_of desk packet) buffer.now)) p.1 (plain desk packet buffer.now)),
 )

@@ -10,9 +10,8 @@ use native.Mathlib.Omega.{arith}
 use borrow.Author.Tests.{eqb-true, eqb-false, ltb-true, ltb-false}
 use Rattle.kit.proofs.Cases.{on, clash, given}
 use Rattle.kit.proofs.Member.{pigeonhole}
-use Rattle.wire.specs.Verdicts.{ruled_accepted, ruling_of}
+use Rattle.wire.specs.Verdicts.{Accepted as passed, Refused, ruled_accepted, ruling_of}
 use Rattle.wire.proofs.Answers.{ruling_apart, verdict-number}
-use Rattle.wire.specs.declared.verdicts.Verdict.TheVariants.{Accepted as passed, Refused}
 use Rattle.places.specs.Places.{free_place, place_at}
 use Rattle.places.proofs.Live.{live_when}
 use Rattle.orders.specs.Orders.{list_refusal}

@@ -5,12 +5,12 @@
 -- The desk, its calls and the tables of its steps are in Calls.antt; what was heard, and which tables were heard whole, in
 -- Hearings.antt. proofs/Ends.antt proves the claim: of every binding that reads back what it wrote, where the listener's figure is not
 -- above the desk's, and the desk's is at most 11.
+use Rattle.telegram.specs.Telegrams.{Reading}
 use Rattle.std.specs.Prelude.{ℕ, ◌+◌, ◌-◌, ◌%◌, ◌≤◌, ◌≡◌, true, cond, List, [], ◌∷◌, replicate}
 use Rattle.condition.specs.Slots.{empty_slot, slot_count}
 use Rattle.wire.specs.Steps.{steps}
 use Rattle.wire.specs.Verdicts.{ruled_refused, ruling_of, number_of}
 use Rattle.condition.specs.declared.slots.Slot.{Slot}
-use Rattle.telegram.specs.declared.Reading.{Reading}
 use Rattle.telegram.specs.declared.Telegram.{Telegram}
 use Rattle.desk.specs.Desks.{packet_of}
 use Rattle.picture.specs.Pictures.{count_of}

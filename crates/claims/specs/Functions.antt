@@ -2,8 +2,9 @@
 -- contract allows is such. An outcome is the answer and, of what is lent to be changed, the last value. A slice that is lent stands
 -- here as its bytes, one that may be changed as its bytes before and after.
 --
--- One of them spelt out. The contract of `telegram_reader::read(bytes)` says that the reading is `read_of bytes`. So `OfRead Such` says: for
--- all bytes, however many, and for every reading that is equal to `read_of bytes`, `Such bytes reading`. That is
+-- One of them spelt out. The contract of `telegram_reader::read(bytes)` says that the reading, as its answer says it (`reading_in`), is
+-- `read_of bytes`. So `OfRead Such` says: for all bytes, however many, and for every answer whose reading is equal to `read_of bytes`,
+-- `Such bytes reading`. That is
 --
 --   (bytes : List ℕ) → Such bytes (read_of bytes)
 --
@@ -17,15 +18,15 @@
 --
 -- The right sides need no reading for that. They pick, out of what the checker has of a function, what `Such` is about: `ended` is what
 -- the function is handed and what it gives, `Learnt` its contract, `κs` for how long each thing is lent, `lasts` the last values.
+use Rattle.telegram.specs.Telegrams.{Reading, reading_in}
 use Rattle.std.specs.Prelude.{ℕ, Bool, List}
 use Rattle.kit.specs.Asserted as Asserted
 use Rattle.kit.specs.Contracts.{Promised}
 use Rattle.wire.specs.declared.distances.Distance.{Distance}
-use Rattle.wire.specs.declared.verdicts.Verdict.{Verdict}
+use Rattle.wire.specs.Verdicts.{Verdict, verdict_in}
 use Rattle.condition.specs.declared.slots.Slot.{Slot}
-use Rattle.telegram.specs.declared.Reading.{Reading}
 use Rattle.telegram.specs.declared.Telegram.{Telegram}
-use Rattle.desk.specs.declared.Answer.{Answer}
+use Rattle.desk.specs.Desks.{Answer, answer_in}
 use Rattle.desk.specs.declared.Desk.{Desk}
 use Rattle.listener.specs.declared.Answer as Vehicle
 use Rattle.listener.specs.declared.Heard.{Heard}
@@ -65,11 +66,11 @@ OfDistance Such = Promised distance-call-contract.ended distance-call.Reads.Lear
 
 -- `telegram_reader::read(bytes)`
 abbrev pub OfRead : (List ℕ → Reading → Type 0) → Type 0
-OfRead Such = Promised read-contract.ended read.Reads.Learnt (λ κs (bytes, _) reading lasts. Such bytes.now reading)
+OfRead Such = Promised read-contract.ended read.Reads.Learnt (λ κs (bytes, _) answer lasts. Such bytes.now (reading_in answer))
 
 -- `telegram_writer::write(telegram, buffer)`
 abbrev pub OfWriteTelegram : (Telegram → List ℕ → Verdict → List ℕ → Type 0) → Type 0
-OfWriteTelegram Such = Promised write-telegram-contract.ended write-telegram.Reads.Learnt (λ κs (telegram, (buffer, _)) verdict (_, (after, _)). Such telegram buffer.now verdict after)
+OfWriteTelegram Such = Promised write-telegram-contract.ended write-telegram.Reads.Learnt (λ κs (telegram, (buffer, _)) answer (_, (after, _)). Such telegram buffer.now (verdict_in answer) after)
 
 -- `Desk::fresh()`
 abbrev pub OfFreshDesk : (Desk → Type 0) → Type 0
@@ -77,7 +78,7 @@ OfFreshDesk Such = Promised fresh-desk-contract.ended fresh-desk.Reads.Learnt (�
 
 -- `Desk::accept(desk, list)`
 abbrev pub OfAccept : (Desk → List ℕ → Answer → Type 0) → Type 0
-OfAccept Such = Promised accept-contract.ended accept.Reads.Learnt (λ κs (desk, (list, _)) answer lasts. Such desk list.now answer)
+OfAccept Such = Promised accept-contract.ended accept.Reads.Learnt (λ κs (desk, (list, _)) answer lasts. Such desk list.now (answer_in answer))
 
 -- `desk_writer::table_of(desk)`
 abbrev pub OfTable : (Desk → List Slot → Type 0) → Type 0
@@ -85,7 +86,7 @@ OfTable Such = Promised table-call-contract.ended table-call.Reads.Learnt (λ κ
 
 -- `desk_writer::write(desk, packet, buffer)`
 abbrev pub OfWrite : (Desk → ℕ → List ℕ → Verdict → List ℕ → Type 0) → Type 0
-OfWrite Such = Promised write-contract.ended write.Reads.Learnt (λ κs (desk, (packet, (buffer, _))) verdict (_, (_, (after, _))). Such desk packet buffer.now verdict after)
+OfWrite Such = Promised write-contract.ended write.Reads.Learnt (λ κs (desk, (packet, (buffer, _))) answer (_, (_, (after, _))). Such desk packet buffer.now (verdict_in answer) after)
 
 -- `Listener::fresh()`
 abbrev pub OfFreshListener : (Listener → Type 0) → Type 0

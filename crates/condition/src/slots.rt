@@ -1,8 +1,10 @@
 // A slot, and the number, type and two words that code it.
 ghost use Rattle.std.specs.Prelude.{◌≡◌};
+ghost use Rattle.wire.specs.Verdicts.{number_in};
 ghost use Rattle.condition.specs.Slots.{empty_slot, is_occupied, body_of, slot_refusal, coded_of};
 
 use kinds::{COUNTRIES, CURRENT, TRACTION, VOLTAGES, is_kind, second_allowed, second_held};
+use wire::Refusal;
 
 // How many slots a table has.
 pub const SLOTS: usize = 20;
@@ -46,13 +48,7 @@ impl Slot {
     pub fn is_occupied(self) -> bool
         ensures { result ≡ is_occupied self }
     {
-        let body = self.body;
-        match body {
-            Body::Empty => false,
-            Body::Area { .. } => true,
-            Body::Traction { .. } => true,
-            Body::Current { .. } => true,
-        }
+        !matches!(self.body, Body::Empty)
     }
 }
 
@@ -66,6 +62,7 @@ pub struct Coded {
 }
 
 // The body that a type and two words make. A type that is not 1 to 9 makes none.
+#[tactic(auto, unfolding(crate::specs::Slots::body_of))]
 pub fn body_of(kind: u8, first: u16, second: u16) -> Body
     ensures { result ≡ body_of kind first second }
 {
@@ -93,38 +90,39 @@ pub fn body_of(kind: u8, first: u16, second: u16) -> Body
     Body::Empty
 }
 
-// The first of the rows 12, 13 and 6 that holds, or 0.
-pub fn refusal_of(coded: Coded) -> u8
-    ensures { result ≡ slot_refusal coded }
+// The first of the rows 12, 13 and 6 that holds.
+#[tactic(auto, unfolding(kit::specs::Ladder::ladder, crate::specs::Slots::slot_rows, kinds::specs::Words::second_allowed, kinds::specs::Words::is_considered))]
+pub fn refusal_of(coded: Coded) -> Result<(), Refusal>
+    ensures { number_in result ≡ slot_refusal coded }
 {
-    if coded.number == 0 {
-        if coded.kind != 0 {
-            return 12;
+    let Coded {
+        number,
+        kind,
+        first,
+        second,
+    } = coded;
+    if number == 0 {
+        if kind != 0 || first != 0 || second != 0 {
+            return Err(Refusal::EmptySlotFilled);
         }
-        if coded.first != 0 {
-            return 12;
-        }
-        if coded.second != 0 {
-            return 12;
-        }
-        return 0;
+        return Ok(());
     }
-    if !is_kind(coded.kind) {
-        return 13;
+    if !is_kind(kind) {
+        return Err(Refusal::UnknownSlotType);
     }
-    if second_allowed(coded.kind, coded.first, coded.second) {
-        return 0;
+    if !second_allowed(kind, first, second) {
+        return Err(Refusal::SecondWord);
     }
-    6
+    Ok(())
 }
 
 // A slot, coded. Of a country and a voltage the ten and the four bits that have room are written: a slot that a desk or a reader
 // holds has no others.
+#[tactic(auto, unfolding(crate::specs::Slots::coded_of))]
 pub fn coded_of(slot: Slot) -> Coded
     ensures { result ≡ coded_of slot }
 {
-    let body = slot.body;
-    match body {
+    match slot.body {
         Body::Empty => Coded {
             number: 0,
             kind: 0,

@@ -7,7 +7,7 @@ use native.Mathlib.Omega.{arith}
 use borrow.Author.Tests.{eqb-true, eqb-false, ne_eqb}
 use Rattle.kit.proofs.Cases.{on}
 use Rattle.wire.proofs.Answers.{verdict-accepted, verdict-refused}
-use Rattle.wire.specs.declared.verdicts.Verdict.TheVariants.{Accepted as accepted, Refused}
+use Rattle.wire.specs.Verdicts.{Accepted as accepted, Refused}
 use Rattle.orders.specs.Orders.{list_refusal}
 use Rattle.desk.specs.declared.Desk.{Desk}
 use Rattle.desk.specs.Desks.{base_rest, accept_of, Made, made_fresh, called}

@@ -15,7 +15,7 @@ use Rattle.kit.proofs.Cases.{given}
 use Rattle.kit.proofs.Ladder.{ladder_decides, decides_positive}
 use Rattle.wire.proofs.Answers.{refused_when, accepted_when}
 use Rattle.condition.specs.Slots.{coded_of}
-use Rattle.wire.specs.declared.verdicts.Verdict.TheVariants.{Accepted, Refused}
+use Rattle.wire.specs.Verdicts.{Accepted, Refused}
 use Rattle.telegram.specs.Telegrams.{read_of, bytes_of}
 use Rattle.order_list.specs.Lists.{order_at, listed_at, stands, order_named}
 use Rattle.places.specs.Places.{place_at, lowest_free, is_live}

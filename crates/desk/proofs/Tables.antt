@@ -6,7 +6,7 @@ use lib.ListN.{length, get_or, length-map, get_or-map}
 use native.Mathlib.Omega.{arith}
 use Rattle.condition.specs.Slots.{empty_slot, MayHold, slot_count}
 use Rattle.condition.specs.declared.slots.Slot.{Slot}
-use Rattle.wire.specs.declared.verdicts.Verdict.TheVariants.{Accepted}
+use Rattle.wire.specs.Verdicts.{Accepted}
 use Rattle.telegram.specs.Sendable.{Sendable}
 use Rattle.telegram.specs.Tables.{four_of}
 use Rattle.telegram.specs.Telegrams.{read_of, bytes_of, written}

@@ -8,8 +8,7 @@ use native.Mathlib.Omega.{arith}
 use Rattle.kit.specs.Each.{each}
 use Rattle.kit.specs.Ladder.{Decides, NoneHolds}
 use Rattle.kit.proofs.Ladder.{decides_such, decides_append}
-use Rattle.wire.specs.declared.verdicts.Verdict.{Verdict}
-use Rattle.wire.specs.declared.verdicts.Verdict.TheVariants.{Accepted, Refused}
+use Rattle.wire.specs.Verdicts.{Verdict, Accepted, Refused}
 use Rattle.frames.specs.Frames.{Framed, no_bare, calls_of, short_tail}
 use Rattle.frames.proofs.Splitting.{calls_few, tail-most}
 use Rattle.places.specs.declared.Place.{Place}

@@ -1,7 +1,6 @@
 -- What comes of a whole input of lists: everything that the program run_desk writes, and the desk at the input's end.
 use Rattle.std.specs.Prelude.{ℕ, ◌+◌, List, [], ◌∷◌, ◌++◌, map}
-use Rattle.wire.specs.declared.verdicts.Verdict.{Verdict}
-use Rattle.wire.specs.declared.verdicts.Verdict.TheVariants.{Accepted, Refused}
+use Rattle.wire.specs.Verdicts.{Verdict, Accepted, Refused}
 use Rattle.frames.specs.Frames.{Framed, no_bare, calls_of, short_tail}
 use Rattle.desk.specs.Desks.{base_rest, fresh_desk, accept_of}
 use Rattle.desk.specs.declared.Desk.{Desk}

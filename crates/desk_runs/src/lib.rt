@@ -60,6 +60,7 @@ fn take(desk: Desk, list: &[u8], lists: u64, tables: &mut [u8], lines: &mut [u8]
 
 // Hands all lists to a fresh desk: the table after each that is accepted, and a line for each that is refused and where the input ends
 // inside a list. What has no room before a buffer's end is dropped. The desk is the one that the lists leave.
+#[tactic(auto, using(frames::proofs::Splitting::call_bounds))]
 fn hand_over(input: &[u8], tables: &mut [u8], lines: &mut [u8]) -> Taken
     ensures { (result.desk ≡ desk_at_end input.now)
         × Poured tables.old 0 (run_tables input.now) tables.new result.ran.tables
@@ -72,16 +73,15 @@ fn hand_over(input: &[u8], tables: &mut [u8], lines: &mut [u8]) -> Taken
     };
     let mut lists: u64 = 0;
     let mut rest = input;
-    while 0 < rest.len() {
-        let size = frames::call_size(rest, frames::NO_BARE);
-        if size == 0 {
+    while !rest.is_empty() {
+        let Some(size) = frames::call_size(rest, None) else {
             let past = desk_output::put_short(lines, ran.lines);
             let short = Ran {
                 tables: ran.tables,
                 lines: past,
             };
             return Taken { desk, ran: short };
-        }
+        };
         lists += 1;
         let taken = take(desk, &rest[frames::LENGTH..size], lists, tables, lines, ran);
         desk = taken.desk;

@@ -6,7 +6,6 @@
 
 ghost use Rattle.std.specs.Prelude.{◌≡◌, length};
 ghost use Rattle.kit.specs.Put.{Poured};
-ghost use Rattle.wire.specs.Verdicts.{number_of};
 ghost use Rattle.telegram.specs.Telegrams.{write_refusal, written};
 ghost use Rattle.desk.specs.Desks.{packet_of};
 ghost use Rattle.listing.specs.Listings.{listing};
@@ -15,8 +14,6 @@ ghost use Rattle.hearing_runs.specs.Runs.{lines_heard};
 ghost use Rattle.listing_reader.specs.Fixed.{word_of, code_of};
 ghost use Rattle.desk_runs.specs.Runs.{run_tables, refused_lines, desk_at_end};
 ghost use Rattle.signal_runs.specs.Runs.{signal_lines};
-
-use wire::Verdict;
 
 // The listing of a recording of telegrams, as list_conditions writes it.
 pub fn bravolith_list(recording: &[u8], out: &mut [u8]) -> usize
@@ -57,23 +54,16 @@ pub fn bravolith_run_lines(lists: &[u8], out: &mut [u8]) -> usize
     ran.lines
 }
 
-// The number that a verdict gives, 0 where nothing is refused.
-fn number_of(verdict: Verdict) -> u8
-    ensures { result ≡ number_of verdict }
-{
-    match verdict {
-        Verdict::Accepted => 0,
-        Verdict::Refused(number) => number,
-    }
-}
-
 // One packet of the table of the desk that the lists leave, written into a buffer of any length. The answer is document 01's number: 0
 // where the packet is written, and 9 or 10 where that is refused, and then no byte is changed.
 pub fn bravolith_write(lists: &[u8], packet: u8, out: &mut [u8]) -> u8
     ensures { (result ≡ write_refusal packet (length out.old))
         × (out.new ≡ written (packet_of (desk_at_end lists.now) packet) out.old) }
 {
-    number_of(desk_writer::write(desk_runs::desk_after(lists), packet, out))
+    match desk_writer::write(desk_runs::desk_after(lists), packet, out) {
+        Ok(()) => 0,
+        Err(refusal) => u8::from(refusal),
+    }
 }
 
 // The lines of calls with train telegrams, as read_signals writes them.

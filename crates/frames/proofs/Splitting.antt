@@ -4,13 +4,14 @@ use Prim.Native.Nat.{ℕ, zero, suc, ◌-◌, ◌<◌, ◌≤◌}
 use mathlib.Core.Path.{◌≡◌, refl, sym, ap, ◌∙◌}
 use mathlib.Core.Bool.{true, false, cond}
 use mathlib.Core.List.{List, [], ◌∷◌}
-use lib.Dec.{ltb}
+use lib.Dec.{eqb, ltb}
 use lib.ListN.{length, take, drop, length-drop}
 use native.Mathlib.Omega.{arith}
-use borrow.Author.Tests.{leb-true, leb-false, le-leb, lt-leb, lt-ltb, le-ltb}
+use borrow.Author.Tests.{eqb-true, eqb-false, leb-true, leb-false, le-leb, lt-leb, lt-ltb, le-ltb}
+use Rattle.std.specs.Prelude.{None, Some}
 use Rattle.kit.specs.Bytes.{word_at}
 use Rattle.kit.proofs.Cases.{on}
-use Rattle.frames.specs.Frames.{follows, size_of, is_whole_frame, whole_size, first_of, behind, framed_up_to, calls_of, left_up_to, left_of, is_short, short_tail}
+use Rattle.frames.specs.Frames.{follows, size_of, is_whole_frame, whole_size, size_given, first_of, behind, framed_up_to, calls_of, left_up_to, left_of, is_short, short_tail}
 
 -- ---- the size of the first call
 
@@ -79,6 +80,16 @@ left-part bare input e = (enough bare (length input) (suc (length input)) input 
 
 -- ---- what a reader of calls goes by, who knows the size
 
+-- what the code's answer says of it
+pub size_some : {size : ℕ} (known : ℕ) → Some size ≡ size_given known → (size ≡ known) × (1 ≤ size)
+size_some {size = size} known e =
+    on (eqb known 0)
+    (λ z. absurd (let h = rw z at e in cc))
+    (λ z. let h = rw z at e in let same : size ≡ known = cc in (same, omega (arith, eqb-false known 0 z)))
+
+pub size_none : (known : ℕ) → None ≡ size_given known → known ≡ 0
+size_none known e = on (eqb known 0) (λ z. eqb-true known 0 z) (λ z. absurd (let h = rw z at e in cc))
+
 size-known : (bare : ℕ) (input : List ℕ) → 1 ≤ whole_size bare input → (is_whole_frame bare input ≡ true) × (whole_size bare input ≡ size_of bare input)
 unfolding whole_size
 size-known bare input h = on (is_whole_frame bare input) (λ e. (e, rw e refl)) (λ e. absurd (let z : whole_size bare input ≡ 0 = rw e refl in omega arith))
@@ -139,6 +150,10 @@ module _ (bare : ℕ) (input : List ℕ) (size : ℕ) (sized : size ≡ whole_si
     pub tail-short : (line : List ℕ) → 1 ≤ length input → short_tail bare line input ≡ line
     unfolding short_tail
     tail-short line h = ap (λ b. cond b line []) (short_none h)
+
+-- so of a size that the code's answer gives
+pub call_bounds : {size : ℕ} (bare : ℕ) (input : List ℕ) → Some size ≡ size_given (whole_size bare input) → (2 ≤ size) × (size ≤ length input)
+call_bounds {size = size} bare input e = let known = size_some (whole_size bare input) e in size_bounds bare input size known.0 known.1
 
 -- at the end there is no call, and nothing is left
 module _ (bare : ℕ) (input : List ℕ) (end : length input ≡ 0) where

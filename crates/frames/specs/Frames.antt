@@ -1,5 +1,5 @@
 -- Calls one after another, each a length in two bytes, high first, and so many bytes. One length may be bare: nothing follows it.
-use Rattle.std.specs.Prelude.{ℕ, zero, suc, ◌+◌, Bool, cond, List, [], ◌∷◌, ◌++◌, eqb, ltb, leb, length, take, drop}
+use Rattle.std.specs.Prelude.{ℕ, zero, suc, ◌+◌, Bool, cond, List, [], ◌∷◌, ◌++◌, eqb, ltb, leb, length, take, drop, Option, None, Some}
 use Rattle.kit.specs.Bytes.{word_at, word_bytes}
 
 -- a call: its length as it stands there, and its bytes
@@ -9,6 +9,11 @@ Framed = ℕ × List ℕ
 -- no length is bare, and each has its bytes: two bytes do not say this one
 abbrev pub no_bare : ℕ
 no_bare = 0x10000
+
+-- the length that is bare, where the code names one
+abbrev pub bare_in : Option ℕ → ℕ
+bare_in None = no_bare
+bare_in (Some bare) = bare
 
 -- how many bytes follow a length
 unfoldable pub follows : ℕ → ℕ → ℕ
@@ -25,6 +30,10 @@ is_whole_frame bare input = leb (size_of bare input) (length input)
 -- how many bytes the first call takes, and 0 where the input does not have it whole
 unfoldable pub whole_size : ℕ → List ℕ → ℕ
 whole_size bare input = cond (is_whole_frame bare input) (size_of bare input) 0
+
+-- such a size in the code's answer: none is 0, which no whole call takes
+abbrev pub size_given : ℕ → Option ℕ
+size_given size = cond (eqb size 0) None (Some size)
 
 -- the first call, and what stands behind it
 unfoldable pub first_of : ℕ → List ℕ → Framed

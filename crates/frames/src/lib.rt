@@ -2,32 +2,25 @@
 #![tactic(auto)]
 
 ghost use Rattle.std.specs.Prelude.{◌≡◌};
-ghost use Rattle.frames.specs.Frames.{follows, whole_size};
+ghost use Rattle.frames.specs.Frames.{bare_in, follows, size_given, whole_size};
 
 // How many bytes a length takes.
 pub const LENGTH: usize = 2;
 
-// Where no length is to be bare: more than two bytes can say.
-pub const NO_BARE: u32 = 0x10000;
-
 // How many bytes follow a length.
-fn follows(word: u16, bare: u32) -> u16
-    ensures { result ≡ follows bare word }
+#[tactic(auto, unfolding(crate::specs::Frames::follows))]
+fn follows(word: u16, bare: Option<u16>) -> u16
+    ensures { result ≡ follows (bare_in bare) word }
 {
-    if word as u32 == bare {
-        return 0;
-    }
-    word
+    if bare == Some(word) { 0 } else { word }
 }
 
-// How many bytes the first call takes, its length among them; 0 where the input ends inside it. Nothing follows the length `bare`;
-// where that is more than two bytes can say, every length has its bytes.
-pub fn call_size(input: &[u8], bare: u32) -> usize
-    ensures { result ≡ whole_size bare input.now }
+// How many bytes the first call takes, its length among them; none where the input ends inside it. Nothing follows the length `bare`,
+// where one is bare.
+#[tactic(auto, unfolding(crate::specs::Frames::whole_size, crate::specs::Frames::is_whole_frame, crate::specs::Frames::size_of))]
+pub fn call_size(input: &[u8], bare: Option<u16>) -> Option<usize>
+    ensures { result ≡ size_given (whole_size (bare_in bare) input.now) }
 {
     let size = LENGTH + follows(wire::word_at(input, 0), bare) as usize;
-    if size <= input.len() {
-        return size;
-    }
-    0
+    (size <= input.len()).then_some(size)
 }

@@ -11,6 +11,8 @@ ghost use Rattle.hand.specs.Sets.{is_held, is_whole};
 ghost use Rattle.hand.specs.Lent.{hand_in, hand_bytes, begun_in, four_in, joined_in};
 
 use condition::Slot;
+use memory::SET;
+use std::array::from_fn;
 use telegram::FIRST_PACKET;
 use wire::STEPS;
 
@@ -34,16 +36,12 @@ pub struct Hand {
 pub fn begin(memory: &mut [u8; 310], step: u16)
     ensures { memory.new ≡ begun_in memory.old step }
 {
-    memory[STEP] = (step / 256) as u8;
-    memory[STEP + 1] = (step % 256) as u8;
-    let mut k: usize = 0;
-    while k < 145 {
-        memory[HELD + k] = 0;
-        k += 1;
-    }
+    memory[STEP..HELD].copy_from_slice(&step.to_be_bytes());
+    memory[HELD..].fill(0);
 }
 
 // The step number of the set.
+#[tactic(auto, unfolding(crate::specs::Lent::hand_in))]
 pub fn step_of(memory: &[u8; 310]) -> u16
     ensures { result ≡ (hand_in memory.now).step }
 {
@@ -55,10 +53,7 @@ pub fn step_of(memory: &[u8; 310]) -> u16
 fn place_of(packet: u8) -> usize
     ensures { result ≡ packet - first_packet }
 {
-    if packet < FIRST_PACKET {
-        return 0;
-    }
-    (packet - FIRST_PACKET) as usize
+    packet.saturating_sub(FIRST_PACKET) as usize
 }
 
 // Whether a packet is held.
@@ -66,14 +61,11 @@ pub fn is_held(memory: &[u8; 310], packet: u8) -> bool
     ensures { result ≡ is_held (hand_in memory.now) packet }
 {
     let k = place_of(packet);
-    if k < PACKETS {
-        return memory[HELD + k] != 0;
-    }
-    false
+    k < PACKETS && memory[HELD + k] != 0
 }
 
 // The packet number of a telegram, 0 to 7.
-fn packet_in(telegram: &[u8]) -> u8
+pub fn packet_in(telegram: &[u8]) -> u8
     ensures { (result ≡ packet_in telegram.now) × (result ≤ 7) }
 {
     (wire::word_at(telegram, 0) / STEPS) as u8
@@ -87,10 +79,8 @@ fn put_four(memory: &mut [u8; 310], i: usize, telegram: &[u8])
     if i > 16 {
         return;
     }
-    let mut k: usize = 0;
-    while k < 4 {
+    for k in 0..4 {
         memory::put_slot(memory, i + k, telegram_reader::place_slot(telegram, k));
-        k += 1;
     }
 }
 
@@ -107,49 +97,25 @@ pub fn join(memory: &mut [u8; 310], telegram: &[u8])
 pub fn is_whole(memory: &[u8; 310]) -> bool
     ensures { result ≡ is_whole (hand_in memory.now) }
 {
-    let mut k: usize = 0;
-    while k < PACKETS {
-        if memory[HELD + k] == 0 {
-            return false;
-        }
-        k += 1;
-    }
-    true
+    memory[HELD..SET].iter().all(|byte| *byte != 0)
 }
 
 // Which of the five packets are held.
 fn held_in(memory: &[u8; 310]) -> [bool; 5]
     ensures { result ≡ flags_at memory.now held_from packets }
 {
-    let mut held = [false; 5];
-    let mut k: usize = 0;
-    while k < PACKETS {
-        held[k] = memory[HELD + k] != 0;
-        k += 1;
-    }
-    held
+    from_fn(|k| memory[HELD + k] != 0)
 }
 
 // The set by value.
+#[tactic(auto, unfolding(crate::specs::Lent::hand_in))]
 pub fn hand_in(memory: &[u8; 310]) -> Hand
     ensures { result ≡ hand_in memory.now }
 {
-    let step = step_of(memory);
-    let held = held_in(memory);
-    let slots = memory::set_in(memory);
-    Hand { step, held, slots }
-}
-
-// The step number of a set, and which of the five packets are held.
-fn put_front(memory: &mut [u8; 310], step: u16, held: [bool; 5])
-    ensures { memory.new ≡ sets memory.old step_from (word_bytes step ++ map flag_byte held) }
-{
-    memory[STEP] = (step / 256) as u8;
-    memory[STEP + 1] = (step % 256) as u8;
-    let mut k: usize = 0;
-    while k < PACKETS {
-        memory[HELD + k] = held[k] as u8;
-        k += 1;
+    Hand {
+        step: step_of(memory),
+        held: held_in(memory),
+        slots: memory::set_in(memory),
     }
 }
 
@@ -157,8 +123,7 @@ fn put_front(memory: &mut [u8; 310], step: u16, held: [bool; 5])
 pub fn put_hand(memory: &mut [u8; 310], hand: Hand)
     ensures { memory.new ≡ sets memory.old step_from (hand_bytes hand) }
 {
-    let held = hand.held;
-    let slots = hand.slots;
-    put_front(memory, hand.step, held);
-    memory::put_set(memory, slots)
+    memory[STEP..HELD].copy_from_slice(&hand.step.to_be_bytes());
+    memory[HELD..SET].copy_from_slice(&hand.held.map(u8::from));
+    memory::put_set(memory, hand.slots)
 }

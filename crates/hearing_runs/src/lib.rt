@@ -20,17 +20,17 @@ fn hear_next(memory: &mut [u8; 310], telegram: &[u8], lines: &mut [u8], at: usiz
 
 // The lines of all telegrams, heard by a fresh listener, and `short telegram` where the input ends inside one; the answer is the place
 // past them. What has no room before the buffer's end is dropped.
+#[tactic(auto, using(frames::proofs::Splitting::call_bounds))]
 pub fn hear(input: &[u8], lines: &mut [u8]) -> usize
     ensures { Poured lines.old 0 (lines_heard input.now) lines.new result }
 {
     let mut memory = [0u8; 310];
     let mut rest = input;
     let mut at: usize = 0;
-    while 0 < rest.len() {
-        let size = frames::call_size(rest, frames::NO_BARE);
-        if size == 0 {
+    while !rest.is_empty() {
+        let Some(size) = frames::call_size(rest, None) else {
             return text::put_words(lines, at, b"short telegram\n");
-        }
+        };
         at = hear_next(&mut memory, &rest[frames::LENGTH..size], lines, at);
         rest = &rest[size..];
     }

@@ -33,78 +33,62 @@ const NO_RESTRICTION: u16 = 1023;
 pub fn is_kind(kind: u8) -> bool
     ensures { result ≡ is_type kind }
 {
-    if kind == 0 {
-        return false;
-    }
-    kind <= LAST_KIND
+    (1..=LAST_KIND).contains(&kind)
 }
 
 // Whether the second word is looked at: not for a change of traction system or of current whose change distance is missing.
+#[tactic(auto, unfolding(crate::specs::Words::is_considered))]
 fn considered(kind: u8, first: u16) -> bool
     ensures { result ≡ is_considered kind first }
 {
-    if first != NO_VALUE {
-        return true;
-    }
-    if kind == TRACTION {
-        return false;
-    }
-    kind != CURRENT
+    first != NO_VALUE || (kind != TRACTION && kind != CURRENT)
 }
 
 // Whether the country is not looked at: a change of traction system with voltage 0, where the line is fitted with none.
+#[tactic(auto, unfolding(crate::specs::Words::is_unfitted))]
 fn unfitted(kind: u8, second: u16) -> bool
     ensures { result ≡ is_unfitted kind second }
 {
-    if kind == TRACTION {
-        return second % VOLTAGES == 0;
-    }
-    false
+    kind == TRACTION && second % VOLTAGES == 0
 }
 
 fn traction_word(second: u16) -> bool
     ensures { result ≡ is_traction_word second }
 {
-    if second < ABOVE_COUNTRY {
-        return second % VOLTAGES <= VOLTAGE_MOST;
-    }
-    false
+    second < ABOVE_COUNTRY && second % VOLTAGES <= VOLTAGE_MOST
 }
 
 fn current_word(second: u16) -> bool
     ensures { result ≡ is_current_word second }
 {
-    if second <= LIMIT_MOST {
-        return true;
-    }
-    second == NO_RESTRICTION
+    second <= LIMIT_MOST || second == NO_RESTRICTION
 }
 
 // Whether the second word is allowed for the type (row 6). Between entry and exit no order is asked.
+#[tactic(auto, unfolding(crate::specs::Words::second_allowed))]
 pub fn second_allowed(kind: u8, first: u16, second: u16) -> bool
     ensures { result ≡ second_allowed kind first second }
 {
     if !considered(kind, first) {
         return true;
     }
-    if kind == TRACTION {
-        return traction_word(second);
+    match kind {
+        TRACTION => traction_word(second),
+        CURRENT => current_word(second),
+        _ => true,
     }
-    if kind == CURRENT {
-        return current_word(second);
-    }
-    true
 }
 
 // The second word as a desk and a reader hold it: zero without a change distance, and with voltage 0 without its country.
+#[tactic(auto, unfolding(crate::specs::Words::second_held))]
 pub fn second_held(kind: u8, first: u16, second: u16) -> u16
     ensures { result ≡ second_held kind first second }
 {
-    if considered(kind, first) {
-        if unfitted(kind, second) {
-            return second - second / VOLTAGES % COUNTRIES * VOLTAGES;
-        }
-        return second;
+    if !considered(kind, first) {
+        0
+    } else if unfitted(kind, second) {
+        second - second / VOLTAGES % COUNTRIES * VOLTAGES
+    } else {
+        second
     }
-    0
 }

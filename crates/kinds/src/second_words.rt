@@ -23,21 +23,12 @@ const PAGE: [Row; ROWS] = [
 ];
 
 // Whether a row is one of the type's and has the word.
+#[tactic(auto, unfolding(crate::specs::SecondWords::fits))]
 fn has_word(row: Row, kind: u8, word: u16) -> bool
     ensures { result ≡ has_word kind word row }
 {
     let Row(of, zeros, looked, low, high) = row;
-    if of != kind {
-        return false;
-    }
-    if word & zeros != 0 {
-        return false;
-    }
-    let seen = word & looked;
-    if seen < low {
-        return false;
-    }
-    seen <= high
+    of == kind && word & zeros == 0 && (low..=high).contains(&(word & looked))
 }
 
 // Whether the page allows a word for a type: one of the type's rows has it, or the type has no row. The page is copied once, before the
@@ -47,14 +38,11 @@ pub fn on_page(kind: u8, word: u16) -> bool
 {
     let page = PAGE;
     let mut known = false;
-    let mut i: usize = 0;
-    while i < ROWS {
-        let row = page[i];
-        if has_word(row, kind, word) {
+    for row in &page {
+        if has_word(*row, kind, word) {
             return true;
         }
-        known = known | (row.0 == kind);
-        i += 1;
+        known |= row.0 == kind;
     }
     !known
 }

@@ -2,27 +2,24 @@
 // looked at as far as its first n orders; a desk hands in how many it has.
 #![tactic(auto)]
 
-ghost use Rattle.std.specs.Prelude.{map, ◌≡◌, ◌<◌};
-ghost use Rattle.order_list.specs.Lists.{listed_at, numbers_of};
+ghost use Rattle.std.specs.Prelude.{map, ◌≡◌};
+ghost use Rattle.order_list.specs.Lists.{index_below, listed_at, numbers_of};
 ghost use Rattle.leaving.specs.Leaving.{kept_among, ended_entry, ended_among, remains_of};
 
 use condition::{SLOTS, Slot};
 use places::Place;
 use resting::{Ended, KEPT};
 
-// Which of the first n orders of a list has this order number, or n where none has, by the order numbers of its first twenty.
-fn listed(numbers: &[u32; 20], list: &[u8], n: u8, number: u32) -> u8
+// Which of the first n orders of a list has this order number, by the order numbers of its first twenty.
+fn listed(numbers: &[u32; 20], list: &[u8], n: u8, number: u32) -> Option<u8>
     requires { numbers.now ≡ numbers_of list.now }
-    ensures { result ≡ listed_at list.now n number }
+    ensures { result ≡ index_below n (listed_at list.now n number) }
 {
-    let at = order_list::found_at(numbers, number);
-    if n as usize <= at {
-        return n;
+    match order_list::found_at(numbers, number) {
+        Some(at) if at < n as usize => Some(at as u8),
+        None if SLOTS < n as usize => order_list::listed_at(list, n, number),
+        _ => None,
     }
-    if at < SLOTS {
-        return at as u8;
-    }
-    order_list::listed_at(list, n, number)
 }
 
 // What becomes of a place, and what it adds to the numbers that ended.
@@ -37,8 +34,7 @@ fn fate_of(numbers: &[u32; 20], list: &[u8], n: u8, step: u16, place: Place) -> 
     requires { numbers.now ≡ numbers_of list.now }
     ensures { (result.place ≡ kept_among list.now n place) × (result.ended ≡ ended_entry list.now n step place) }
 {
-    let at = listed(numbers, list, n, place.order);
-    if at < n {
+    if let Some(at) = listed(numbers, list, n, place.order) {
         let order = order_list::order_at(list, at);
         return Fate {
             place: Place {
@@ -81,18 +77,11 @@ pub fn leave(list: &[u8], n: u8, step: u16, places: [Place; 20], ended: [Ended; 
     let numbers = order_list::numbers_of(list);
     let mut kept = places;
     let mut next = ended;
-    let mut i: usize = 0;
-    while i < SLOTS {
-        let fate = fate_of(&numbers, list, n, step, places[i]);
-        let place = fate.place;
-        let entry = fate.ended;
-        kept[i] = place;
-        next[i] = entry;
-        i += 1;
-    }
-    while i < KEPT {
-        next[i] = ended[i - SLOTS];
-        i += 1;
+    next.copy_within(..KEPT - SLOTS, SLOTS);
+    for (i, place) in places.iter().enumerate() {
+        let fate = fate_of(&numbers, list, n, step, *place);
+        kept[i] = fate.place;
+        next[i] = fate.ended;
     }
     Remains {
         places: kept,
@@ -101,15 +90,15 @@ pub fn leave(list: &[u8], n: u8, step: u16, places: [Place; 20], ended: [Ended; 
 }
 
 // The places of the orders that stay.
+#[tactic(auto, unfolding(crate::specs::Leaving::remains_of))]
 pub fn kept_places(list: &[u8], n: u8, places: [Place; 20]) -> [Place; 20]
     ensures { result ≡ map (kept_among list.now n) places }
 {
-    let none = Ended::none();
-    let left = leave(list, n, 0, places, [none; 160]);
-    left.places
+    leave(list, n, 0, places, [Ended::none(); 160]).places
 }
 
 // The ended numbers after the step: the twenty of this step, then those that were there.
+#[tactic(auto, unfolding(crate::specs::Leaving::remains_of))]
 pub fn ended_numbers(
     list: &[u8],
     n: u8,
@@ -119,6 +108,5 @@ pub fn ended_numbers(
 ) -> [Ended; 160]
     ensures { result ≡ ended_among list.now n step places ended }
 {
-    let left = leave(list, n, step, places, ended);
-    left.ended
+    leave(list, n, step, places, ended).ended
 }

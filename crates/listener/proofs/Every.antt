@@ -9,12 +9,10 @@ use Rattle.kit.proofs.Maps.{replicate-at}
 use Rattle.kit.proofs.Stores.{sets-each}
 use Rattle.condition.specs.Slots.{empty_slot, slot_count}
 use Rattle.condition.specs.declared.slots.Slot.{Slot}
-use Rattle.wire.specs.declared.verdicts.Verdict.{Verdict}
-use Rattle.wire.specs.declared.verdicts.Verdict.TheVariants.{Accepted, Refused}
+use Rattle.wire.specs.Verdicts.{Verdict, Accepted, Refused}
 use Rattle.telegram.specs.Sendable.{slot_on}
 use Rattle.telegram.specs.Tables.{table_slot, first_slot}
-use Rattle.telegram.specs.Telegrams.{read_of}
-use Rattle.telegram.specs.declared.Reading.{Reading}
+use Rattle.telegram.specs.Telegrams.{Reading, read_of}
 use Rattle.telegram.specs.declared.Telegram.{Telegram}
 use Rattle.hand.specs.Sets.{begun, set_for, joined}
 use Rattle.listener.specs.Listeners.{fresh_listener, taken_by, heard_of, after_reading, hear_of, heard_all}

@@ -5,11 +5,11 @@ use mathlib.Core.Logic.{inl, inr}
 use mathlib.Core.Path.{◌≡◌, refl, ap}
 use mathlib.Core.Bool.{true, false, not}
 use lib.ListN.{replicate}
+use Rattle.telegram.specs.Telegrams.{Reading}
 use Rattle.kit.proofs.Ladder.{ladder_decides, ladder-silent}
 use Rattle.kit.proofs.Maps.{replicate-at}
 use Rattle.condition.specs.Slots.{slot_count, empty_slot}
-use Rattle.wire.specs.declared.verdicts.Verdict.TheVariants.{Accepted, Refused}
-use Rattle.telegram.specs.declared.Reading.{Reading}
+use Rattle.wire.specs.Verdicts.{Accepted, Refused}
 use Rattle.telegram.specs.declared.Telegram.{Telegram}
 use Rattle.picture.specs.Pictures.{clashes}
 use Rattle.marks.specs.Marks.{marks_of}
@@ -17,7 +17,7 @@ use Rattle.hand.specs.Sets.{begun, set_for, is_held, joined, is_whole}
 use Rattle.last_step.specs.LastSteps.{gap_from, is_last}
 use Rattle.listener.specs.Answers.{refused_as, as_repeat, as_held}
 use Rattle.listener.specs.Listeners.{fresh_listener, mark_at, holding, taken_by, told_of_table, heard_of, after_reading, hear_of}
-use Rattle.last_step.specs.declared.Last.TheVariants.{Never, Step}
+use Rattle.std.specs.Prelude.{None, Some}
 use Rattle.listener.specs.declared.Listener.{Listener}
 use Rattle.hand.specs.declared.Hand.{Hand}
 
@@ -73,7 +73,7 @@ pub fresh-picture : fresh_listener.picture ≡ replicate slot_count empty_slot
 unfolding fresh_listener
 fresh-picture = refl
 
-pub fresh-last : fresh_listener.last ≡ Never
+pub fresh-last : fresh_listener.last ≡ None
 unfolding fresh_listener
 fresh-last = refl
 
@@ -91,7 +91,7 @@ module _ (reach : ℕ) (listener : Listener) (set : Hand) where
   unfolding taken_by
   taken-picture = refl
 
-  pub taken-last : (taken_by reach listener set).last ≡ Step set.step
+  pub taken-last : (taken_by reach listener set).last ≡ Some set.step
   unfolding taken_by
   taken-last = refl
 

@@ -13,8 +13,7 @@ use Rattle.kit.proofs.Loops.{count_most}
 use Rattle.condition.specs.Slots.{empty_slot, is_occupied, slot_count}
 use Rattle.condition.specs.declared.slots.Slot.{Slot}
 use Rattle.wire.specs.Steps.{steps, gap_of}
-use Rattle.wire.specs.declared.verdicts.Verdict.{Verdict}
-use Rattle.wire.specs.declared.verdicts.Verdict.TheVariants.{Accepted, Refused}
+use Rattle.wire.specs.Verdicts.{Verdict, Accepted, Refused}
 use Rattle.telegram.specs.Sendable.{slot_on}
 use Rattle.telegram.specs.Tables.{table_slot}
 use Rattle.telegram.specs.Telegrams.{place_start, coded_at, read_refusal, read_rows, slot_at, telegram_of, blank_telegram, read_of}

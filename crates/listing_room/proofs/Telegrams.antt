@@ -12,8 +12,7 @@ use Rattle.kit.specs.Bytes.{Bytes}
 use Rattle.kit.proofs.Cases.{on}
 use Rattle.kit.proofs.Loops.{count_most}
 use Rattle.condition.specs.Slots.{empty_slot}
-use Rattle.wire.specs.declared.verdicts.Verdict.{Verdict}
-use Rattle.wire.specs.declared.verdicts.Verdict.TheVariants.{Accepted, Refused}
+use Rattle.wire.specs.Verdicts.{Verdict, Accepted, Refused}
 use Rattle.telegram.specs.Tables.{packets}
 use Rattle.telegram.specs.Telegrams.{read_of}
 use Rattle.telegram.specs.declared.Telegram.{Telegram}

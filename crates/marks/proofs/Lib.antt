@@ -1,5 +1,4 @@
 pub mod Carrying
-pub mod Heads
 pub mod Lent
 pub mod Seeing
 pub mod Sorting

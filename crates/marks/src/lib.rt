@@ -1,7 +1,7 @@
 // Which entries of the set in the lent memory of a listener are carried on from the picture before it.
 #![tactic(auto)]
 
-ghost use Rattle.std.specs.Prelude.{◌+◌, ◌<◌, ◌≤◌, cond, not, true, false, ◌&&◌, ◌≡◌, length, get_or, set};
+ghost use Rattle.std.specs.Prelude.{◌+◌, ◌<◌, ◌≤◌, true, ◌≡◌, length, get_or};
 ghost use Rattle.kit.specs.Loops.{any};
 ghost use Rattle.condition.specs.Slots.{slot_count};
 ghost use Rattle.memory.specs.Memory.{kind_from, picture_in, set_in};
@@ -10,12 +10,13 @@ ghost use Rattle.marks.specs.Lent.{has_both, is_alike, is_there, all_there, IsHe
 
 use condition::SLOTS;
 use kinds::{CURRENT, TRACTION};
-use memory::{PICTURE, SET, SLOT};
+use memory::{ByteSet, PICTURE, SET, SLOT};
 
 // One more than the greatest number of three bytes.
 const THREE_BYTES: u32 = 0x1000000;
 
 // The type of a slot, by the byte that says what it holds and the byte after it.
+#[tactic(auto, unfolding(memory::specs::Memory::kind_from))]
 fn kind_of(shape: u8, own: u8) -> u8
     ensures { result ≡ kind_from shape own }
 {
@@ -33,43 +34,27 @@ fn has_both(memory: &[u8; 310], j: usize, number: u8, kind: u8) -> bool
     ensures { result ≡ has_both memory.now number kind j }
 {
     let at = PICTURE + SLOT * j;
-    if memory[at] != number {
-        return false;
-    }
-    kind_of(memory[at + 1], memory[at + 2]) == kind
+    memory[at] == number && kind_of(memory[at + 1], memory[at + 2]) == kind
 }
 
 // Whether any slot of the picture has them.
 fn is_known(memory: &[u8; 310], number: u8, kind: u8) -> bool
     ensures { result ≡ any (has_both memory.now number kind) 0 slot_count }
 {
-    let mut j: usize = 0;
-    while j < SLOTS {
-        if has_both(memory, j, number, kind) {
-            return true;
-        }
-        j += 1;
-    }
-    false
+    (0..SLOTS).any(|j| has_both(memory, j, number, kind))
 }
 
-// The head of a slot: its first four bytes as one number, the first of them lowest, which the processor reads at once. What is asked of
-// it stands in the lower three: the slot's number, what it holds, and the byte after that.
-fn head_of(number: u8, shape: u8, own: u8, fourth: u8) -> u32
-    ensures { IsHead number shape own result }
-{
-    number as u32 + shape as u32 * 0x100 + own as u32 * 0x10000 + fourth as u32 * 0x1000000
-}
-
-// The head of the slot whose bytes begin at `at`.
+// The head of the slot whose bytes begin at `at`: its first four bytes as one number, the first of them lowest, which the processor reads
+// at once. What is asked of it stands in the lower three: the slot's number, what it holds, and the byte after that.
 fn head_at(memory: &[u8; 310], at: usize) -> u32
     requires { at + 4 ≤ 310 }
     ensures { IsHead (get_or memory.now at 0) (get_or memory.now (at + 1) 0) (get_or memory.now (at + 2) 0) result }
 {
-    head_of(memory[at], memory[at + 1], memory[at + 2], memory[at + 3])
+    u32::from_le_bytes([memory[at], memory[at + 1], memory[at + 2], memory[at + 3]])
 }
 
 // Whether slot i of the set and slot i of the picture begin with the same three bytes: then they have one number and one type.
+#[tactic(auto, unfolding(crate::specs::Lent::is_alike))]
 fn is_alike(memory: &[u8; 310], i: usize) -> bool
     requires { i < 20 }
     ensures { result ≡ is_alike memory.now i }
@@ -86,24 +71,10 @@ fn is_occupied(memory: &[u8; 310], i: usize) -> bool
     head_at(memory, SET + SLOT * i) / 256 % 256 != 0
 }
 
-// Whether a slot is alike and occupied. It is a product, as the next one is, since a branch that cannot be foretold costs more than the
-// work that it saves.
-fn both(alike: bool, occupied: bool) -> bool
-    ensures { result ≡ alike && occupied }
-{
-    alike as u8 * occupied as u8 != 0
-}
-
-// 1 for a slot that is occupied and not alike, 0 for any other.
-fn second_only(alike: bool, occupied: bool) -> usize
-    ensures { (result ≡ cond (not alike && occupied) 1 0) × (result ≤ 1) }
-{
-    (!alike) as usize * occupied as usize
-}
-
 // Slot i is marked if it is occupied and begins as slot i of the picture does: most entries that are carried stand where they stood
 // before. An occupied one that does not is one of the others, which are looked up later. Each slot is put down as the next of them, and
-// only one that is gets counted.
+// only one that is gets counted. Both flags are always asked, since a branch that cannot be foretold costs more than the work that it
+// saves.
 fn sort_one(
     memory: &[u8; 310],
     i: usize,
@@ -116,9 +87,9 @@ fn sort_one(
 {
     let alike = is_alike(memory, i);
     let occupied = is_occupied(memory, i);
-    marks[i] = both(alike, occupied);
+    marks[i] = alike & occupied;
     others[count] = i;
-    count + second_only(alike, occupied)
+    count + usize::from(!alike & occupied)
 }
 
 // Each slot is sorted so. The answer is how many others there are.
@@ -126,52 +97,32 @@ fn sort_out(memory: &[u8; 310], marks: &mut [bool; 20], others: &mut [usize; 20]
     requires { (length marks.old ≡ slot_count) × (length others.old ≡ slot_count) }
     ensures { Sorted memory.now slot_count 0 result others.new marks.new }
 {
-    let mut count: usize = 0;
-    let mut i: usize = 0;
-    while i < SLOTS {
+    let mut count = 0;
+    for i in 0..SLOTS {
         count = sort_one(memory, i, marks, others, count);
-        i += 1;
     }
     count
 }
 
-// A number is seen.
-fn see(seen: &mut [bool; 256], number: u8)
-    ensures { (seen.new ≡ set seen.old number true) × (number < 256) }
-{
-    seen[number as usize] = true;
-}
-
 // The number of each slot of the picture is seen, an empty one's too.
-fn see_all(memory: &[u8; 310], seen: &mut [bool; 256])
-    requires { length seen.old ≡ 256 }
-    ensures { Seen memory.now slot_count seen.new }
+fn all_seen(memory: &[u8; 310]) -> ByteSet
+    ensures { Seen memory.now slot_count result.flags }
 {
-    let mut k: usize = 0;
-    while k < SLOTS {
-        see(seen, memory[PICTURE + SLOT * k]);
-        k += 1;
+    let mut seen = ByteSet::empty();
+    for k in 0..SLOTS {
+        seen.insert(memory[PICTURE + SLOT * k]);
     }
-}
-
-// Whether a number was seen.
-fn is_seen(seen: &[bool; 256], number: u8) -> bool
-    ensures { result ≡ get_or seen.now number false }
-{
-    seen[number as usize]
+    seen
 }
 
 // Whether the picture has the number of slot i, which is occupied, with its type. A number that was not seen need not be searched for.
-fn is_there(memory: &[u8; 310], seen: &[bool; 256], i: usize) -> bool
-    requires { (i < 20) × (set_holds memory.now i ≡ true) × Seen memory.now slot_count seen.now }
+fn is_there(memory: &[u8; 310], seen: &ByteSet, i: usize) -> bool
+    requires { (i < 20) × (set_holds memory.now i ≡ true) × Seen memory.now slot_count seen.now.flags }
     ensures { result ≡ is_there memory.now i }
 {
     let at = SET + SLOT * i;
-    if is_seen(seen, memory[at]) {
-        let kind = kind_of(memory[at + 1], memory[at + 2]);
-        return is_known(memory, memory[at], kind);
-    }
-    false
+    seen.contains(memory[at])
+        && is_known(memory, memory[at], kind_of(memory[at + 1], memory[at + 2]))
 }
 
 // Each of the others is marked if the picture has it.
@@ -179,13 +130,9 @@ fn look_up(memory: &[u8; 310], others: &[usize; 20], count: usize, marks: &mut [
     requires { Sorted memory.now slot_count 0 count others.now marks.old }
     ensures { marks.new ≡ all_there memory.now }
 {
-    let mut seen = [false; 256];
-    see_all(memory, &mut seen);
-    let mut k: usize = 0;
-    while k < count {
-        let i = others[k];
-        marks[i] = is_there(memory, &seen, i);
-        k += 1;
+    let seen = all_seen(memory);
+    for i in &others[..count] {
+        marks[*i] = is_there(memory, &seen, *i);
     }
 }
 
@@ -194,12 +141,11 @@ fn all_there(memory: &[u8; 310]) -> [bool; 20]
     ensures { result ≡ all_there memory.now }
 {
     let mut marks = [false; 20];
-    let mut others = [0usize; 20];
+    let mut others = [0; 20];
     let count = sort_out(memory, &mut marks, &mut others);
-    if count == 0 {
-        return marks;
+    if count > 0 {
+        look_up(memory, &others, count, &mut marks);
     }
-    look_up(memory, &others, count, &mut marks);
     marks
 }
 
@@ -207,11 +153,9 @@ fn all_there(memory: &[u8; 310]) -> [bool; 20]
 pub fn marks_of(reach: u16, gap: u16, memory: &[u8; 310]) -> [bool; 20]
     ensures { result ≡ marks_of reach gap (picture_in memory.now) (set_in memory.now) }
 {
-    if gap == 0 {
-        return [false; 20];
+    if (1..=reach).contains(&gap) {
+        all_there(memory)
+    } else {
+        [false; 20]
     }
-    if gap > reach {
-        return [false; 20];
-    }
-    all_there(memory)
 }

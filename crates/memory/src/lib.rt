@@ -1,4 +1,5 @@
-// The memory of a listener that a host lends: its slots and marks. specs/Memory.antt says what each byte means.
+// The memory of a listener that a host lends: its slots and marks; specs/Memory.antt says what each byte means. And a set of bytes, in
+// which those who read the slots keep the numbers that they have seen (byte_set).
 #![tactic(auto)]
 
 ghost use Rattle.std.specs.Prelude.{◌+◌, ◌≤◌, ◌≡◌, ◌∷◌, ◌++◌, get_or, false};
@@ -7,7 +8,12 @@ ghost use Rattle.kit.specs.Bytes.{word_bytes};
 ghost use Rattle.telegram.specs.Tables.{table_slot};
 ghost use Rattle.memory.specs.Memory.{set_from, body_from, stored_slot, table_at, slot_bytes, table_bytes, with_slot, with_picture, with_marks, picture_in, set_in, marks_in};
 
+mod byte_set;
+
+pub use byte_set::ByteSet;
+
 use condition::{Body, SLOTS, Slot};
+use std::array::from_fn;
 
 // How many bytes the memory has.
 pub const ROOM: usize = 310;
@@ -23,6 +29,7 @@ pub const MARKS: usize = 140;
 pub const SET: usize = 170;
 
 // What a slot holds.
+#[tactic(auto, unfolding(crate::specs::Memory::body_from))]
 fn body_of(shape: u8, own: u8, first: u16, second: u16) -> Body
     ensures { result ≡ body_from shape own first second }
 {
@@ -46,6 +53,7 @@ fn body_of(shape: u8, own: u8, first: u16, second: u16) -> Body
 }
 
 // The slot whose bytes begin at `at`.
+#[tactic(auto, unfolding(crate::specs::Memory::stored_slot))]
 fn slot_at(memory: &[u8; 310], at: usize) -> Slot
     requires { at + 7 ≤ 310 }
     ensures { result ≡ stored_slot memory.now at }
@@ -63,19 +71,17 @@ pub fn shown_slot(memory: &[u8; 310], i: usize) -> Slot
     ensures { result ≡ table_slot (picture_in memory.now) i }
 {
     if i < SLOTS {
-        return slot_at(memory, PICTURE + SLOT * i);
+        slot_at(memory, PICTURE + SLOT * i)
+    } else {
+        Slot::empty()
     }
-    Slot::empty()
 }
 
 // Whether slot i of the picture is marked as carried.
 pub fn is_marked(memory: &[u8; 310], i: usize) -> bool
     ensures { result ≡ get_or (marks_in memory.now) i false }
 {
-    if i < SLOTS {
-        return memory[MARKS + i] != 0;
-    }
-    false
+    i < SLOTS && memory[MARKS + i] != 0
 }
 
 // The table whose bytes begin at `from`.
@@ -83,13 +89,7 @@ fn table_at(memory: &[u8; 310], from: usize) -> [Slot; 20]
     requires { from + 140 ≤ 310 }
     ensures { result ≡ table_at memory.now from }
 {
-    let mut table = [Slot::empty(); 20];
-    let mut i: usize = 0;
-    while i < SLOTS {
-        table[i] = slot_at(memory, from + SLOT * i);
-        i += 1;
-    }
-    table
+    from_fn(|i| slot_at(memory, from + SLOT * i))
 }
 
 // The picture.
@@ -110,61 +110,56 @@ pub fn set_in(memory: &[u8; 310]) -> [Slot; 20]
 pub fn marks_in(memory: &[u8; 310]) -> [bool; 20]
     ensures { result ≡ marks_in memory.now }
 {
-    let mut marks = [false; 20];
-    let mut i: usize = 0;
-    while i < SLOTS {
-        marks[i] = memory[MARKS + i] != 0;
-        i += 1;
-    }
-    marks
+    from_fn(|i| memory[MARKS + i] != 0)
 }
 
-// Seven bytes.
-fn put_seven(
-    memory: &mut [u8; 310],
-    at: usize,
-    number: u8,
-    shape: u8,
-    own: u8,
-    first: u16,
-    second: u16,
-)
-    requires { at + 7 ≤ 310 }
-    ensures { memory.new ≡ sets memory.old at (number ∷ shape ∷ own ∷ (word_bytes first ++ word_bytes second)) }
+// Seven bytes: the two words with their high bytes first.
+fn seven(number: u8, shape: u8, own: u8, first: u16, second: u16) -> [u8; 7]
+    ensures { result ≡ number ∷ shape ∷ own ∷ (word_bytes first ++ word_bytes second) }
 {
-    memory[at] = number;
-    memory[at + 1] = shape;
-    memory[at + 2] = own;
-    memory[at + 3] = (first / 256) as u8;
-    memory[at + 4] = (first % 256) as u8;
-    memory[at + 5] = (second / 256) as u8;
-    memory[at + 6] = (second % 256) as u8;
+    let [first_high, first_low] = first.to_be_bytes();
+    let [second_high, second_low] = second.to_be_bytes();
+    [
+        number,
+        shape,
+        own,
+        first_high,
+        first_low,
+        second_high,
+        second_low,
+    ]
 }
 
-// The bytes of a slot.
-fn put_bytes(memory: &mut [u8; 310], at: usize, slot: Slot)
-    requires { at + 7 ≤ 310 }
-    ensures { memory.new ≡ sets memory.old at (slot_bytes slot) }
+// The seven bytes of a slot.
+#[tactic(auto, unfolding(crate::specs::Memory::slot_bytes))]
+fn bytes_of(slot: Slot) -> [u8; 7]
+    ensures { result ≡ slot_bytes slot }
 {
-    let number = slot.number;
-    let body = slot.body;
-    match body {
-        Body::Empty => put_seven(memory, at, number, 0, 0, 0, 0),
-        Body::Area { kind, entry, exit } => put_seven(memory, at, number, 1, kind, entry, exit),
+    match slot.body {
+        Body::Empty => seven(slot.number, 0, 0, 0, 0),
+        Body::Area { kind, entry, exit } => seven(slot.number, 1, kind, entry, exit),
         Body::Traction {
             change,
             country,
             voltage,
-        } => put_seven(memory, at, number, 2, voltage, change, country),
-        Body::Current { change, limit } => put_seven(memory, at, number, 3, 0, change, limit),
+        } => seven(slot.number, 2, voltage, change, country),
+        Body::Current { change, limit } => seven(slot.number, 3, 0, change, limit),
     }
 }
 
+// The slot's bytes are put in.
+fn put_bytes(memory: &mut [u8; 310], at: usize, slot: Slot)
+    requires { at + 7 ≤ 310 }
+    ensures { memory.new ≡ sets memory.old at (slot_bytes slot) }
+{
+    memory[at..at + SLOT].copy_from_slice(&bytes_of(slot));
+}
+
 // Slot i of the set in hand is put in; past the twentieth nothing is.
+#[tactic(auto, unfolding(crate::specs::Memory::with_slot))]
 pub fn put_slot(memory: &mut [u8; 310], i: usize, slot: Slot)
     ensures { memory.new ≡ with_slot memory.old i slot }
 {
-    let whole: &[u8] = memory;
     if i < SLOTS {
         put_bytes(memory, SET + SLOT * i, slot);
     }
@@ -175,10 +170,8 @@ fn put_table(memory: &mut [u8; 310], from: usize, table: [Slot; 20])
     requires { from + 140 ≤ 310 }
     ensures { memory.new ≡ sets memory.old from (table_bytes table) }
 {
-    let mut i: usize = 0;
-    while i < SLOTS {
-        put_bytes(memory, from + SLOT * i, table[i]);
-        i += 1;
+    for (i, slot) in table.iter().enumerate() {
+        put_bytes(memory, from + SLOT * i, *slot);
     }
 }
 
@@ -200,22 +193,12 @@ pub fn put_set(memory: &mut [u8; 310], table: [Slot; 20])
 pub fn show(memory: &mut [u8; 310])
     ensures { memory.new ≡ with_picture memory.old }
 {
-    let whole: &[u8] = memory;
-    let mut k: usize = 0;
-    while k < 140 {
-        memory[PICTURE + k] = memory[SET + k];
-        k += 1;
-    }
+    memory.copy_within(SET.., PICTURE);
 }
 
 // The marks of the picture's slots.
 pub fn put_marks(memory: &mut [u8; 310], marks: [bool; 20])
     ensures { memory.new ≡ with_marks memory.old marks }
 {
-    let whole: &[u8] = memory;
-    let mut i: usize = 0;
-    while i < SLOTS {
-        memory[MARKS + i] = marks[i] as u8;
-        i += 1;
-    }
+    memory[MARKS..MARKS + SLOTS].copy_from_slice(&marks.map(u8::from));
 }

@@ -2,11 +2,10 @@
 // it and it does not rest. How many steps a number rests is a figure that the desk hands in.
 #![tactic(auto)]
 
-ghost use Rattle.std.specs.Prelude.{◌≡◌, ◌<◌};
+ghost use Rattle.std.specs.Prelude.{◌≡◌};
 ghost use Rattle.resting.specs.Rests.{is_resting};
 ghost use Rattle.numbers.specs.Numbers.{has_number, is_permitted, number_after, next_number};
 
-use condition::SLOTS;
 use places::Place;
 use resting::Ended;
 
@@ -17,23 +16,13 @@ const NUMBERS: u16 = 255;
 fn has_number(places: [Place; 20], number: u8) -> bool
     ensures { result ≡ has_number places number }
 {
-    let mut i: usize = 0;
-    while i < SLOTS {
-        if places[i].slot.number == number {
-            return true;
-        }
-        i += 1;
-    }
-    false
+    places.iter().any(|place| place.slot.number == number)
 }
 
 fn is_permitted(places: [Place; 20], ended: [Ended; 160], rest: u16, step: u16, number: u8) -> bool
     ensures { result ≡ is_permitted (is_resting rest step ended) places number }
 {
-    if has_number(places, number) {
-        return false;
-    }
-    !resting::is_resting(ended, rest, step, number)
+    !has_number(places, number) && !resting::is_resting(ended, rest, step, number)
 }
 
 // The number that follows the last one given after so many others. 255 is followed by 1; 0 is never given.
@@ -48,11 +37,11 @@ fn number_after(last: u8, others: u8) -> u8
 pub fn next_number(places: [Place; 20], ended: [Ended; 160], last: u8, rest: u16, step: u16) -> u8
     ensures { result ≡ next_number (is_resting rest step ended) places last }
 {
-    let mut others: u8 = 0;
-    let mut number = number_after(last, others);
-    while !is_permitted(places, ended, rest, step, number) {
-        others += 1;
-        number = number_after(last, others);
+    for others in 0..NUMBERS as u8 {
+        let number = number_after(last, others);
+        if is_permitted(places, ended, rest, step, number) {
+            return number;
+        }
     }
-    number
+    unreachable!()
 }

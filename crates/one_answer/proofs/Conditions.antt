@@ -2,6 +2,8 @@
 use mathlib.Core.Path.{refl, ap}
 use Rattle.kit.specs.Contracts.{OneAnswer}
 use Rattle.kit.proofs.Contracts.{agree}
+use Rattle.wire.proofs.Results.{number_in-apart, verdict_in-apart}
+use Rattle.telegram.proofs.Readings.{reading_in-apart}
 use Rattle.kinds.proofs as kinds
 use Rattle.kinds.specs.contracts as kinds-contracts
 use Rattle.condition.proofs as condition
@@ -36,7 +38,7 @@ pub condition-body_of : OneAnswer condition-contracts.body_of.ended condition.bo
 condition-body_of κs handed answer other lasts others p q = (agree p q, refl)
 
 pub condition-refusal_of : OneAnswer condition-contracts.refusal_of.ended condition.refusal_of.Reads.Learnt
-condition-refusal_of κs handed answer other lasts others p q = (agree p q, refl)
+condition-refusal_of κs handed answer other lasts others p q = (number_in-apart answer other (agree p q), refl)
 
 pub condition-coded_of : OneAnswer condition-contracts.coded_of.ended condition.coded_of.Reads.Learnt
 condition-coded_of κs handed answer other lasts others p q = (agree p q, refl)
@@ -55,15 +57,15 @@ telegram-four_of κs handed answer other lasts others p q = (agree p q, refl)
 -- ---- telegram_reader
 
 pub telegram_reader-refusal_of : OneAnswer telegram-reader-contracts.refusal_of.ended telegram-reader.refusal_of.Reads.Learnt
-telegram_reader-refusal_of κs handed answer other lasts others p q = (agree p q, refl)
+telegram_reader-refusal_of κs handed answer other lasts others p q = (number_in-apart answer other (agree p q), refl)
 
 pub telegram_reader-place_slot : OneAnswer telegram-reader-contracts.place_slot.ended telegram-reader.place_slot.Reads.Learnt
 telegram_reader-place_slot κs handed answer other lasts others p q = (agree p q, refl)
 
 pub telegram_reader-read : OneAnswer telegram-reader-contracts.read.ended telegram-reader.read.Reads.Learnt
-telegram_reader-read κs handed answer other lasts others p q = (agree p q, refl)
+telegram_reader-read κs handed answer other lasts others p q = (reading_in-apart answer other (agree p q), refl)
 
 -- ---- telegram_writer
 
 pub telegram_writer-write : OneAnswer telegram-writer-contracts.write.ended telegram-writer.write.Reads.Learnt
-telegram_writer-write κs handed answer other lasts others p q = (agree p.0 q.0, ap (λ b. (tt, (b, tt))) (agree p.1 q.1))
+telegram_writer-write κs handed answer other lasts others p q = (verdict_in-apart answer other (agree p.0 q.0), ap (λ b. (tt, (b, tt))) (agree p.1 q.1))

@@ -3,6 +3,7 @@ use mathlib.Core.Path.{refl, ap}
 use Rattle.kit.proofs.Cases.{given}
 use Rattle.kit.specs.Contracts.{OneAnswer}
 use Rattle.kit.proofs.Contracts.{agree, agree-poured}
+use Rattle.wire.proofs.Results.{number_in-apart, verdict_in-apart}
 use Rattle.order_list.proofs as order-list
 use Rattle.order_list.specs.contracts as order-list-contracts
 use Rattle.places.proofs as places
@@ -54,7 +55,7 @@ places-place_of κs handed answer other lasts others p q = (agree p q, refl)
 -- ---- orders
 
 pub orders-refusal_of : OneAnswer orders-contracts.refusal_of.ended orders.refusal_of.Reads.Learnt
-orders-refusal_of κs handed answer other lasts others p q = (agree p q, refl)
+orders-refusal_of κs handed answer other lasts others p q = (number_in-apart answer other (agree p q), refl)
 
 -- ---- resting
 
@@ -99,7 +100,7 @@ pub desk_writer-table_of : OneAnswer desk-writer-contracts.table_of.ended desk-w
 desk_writer-table_of κs handed answer other lasts others p q = (agree p q, refl)
 
 pub desk_writer-write : OneAnswer desk-writer-contracts.write.ended desk-writer.write.Reads.Learnt
-desk_writer-write κs handed answer other lasts others p q = (agree p.0 q.0, ap (λ b. (tt, (tt, (b, tt)))) (agree p.1 q.1))
+desk_writer-write κs handed answer other lasts others p q = (verdict_in-apart answer other (agree p.0 q.0), ap (λ b. (tt, (tt, (b, tt)))) (agree p.1 q.1))
 
 -- ---- desk_output
 

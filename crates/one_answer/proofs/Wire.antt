@@ -33,9 +33,6 @@ wire-distance_of κs handed answer other lasts others p q = (agree p q, refl)
 pub wire-gap : OneAnswer wire-contracts.gap.ended wire.gap.Reads.Learnt
 wire-gap κs handed answer other lasts others p q = (agree p q, refl)
 
-pub wire-above : OneAnswer wire-contracts.above.ended wire.above.Reads.Learnt
-wire-above κs handed answer other lasts others p q = (agree p q, refl)
-
 -- ---- text
 
 pub text-put_byte : OneAnswer text-contracts.put_byte.ended text.put_byte.Reads.Learnt

@@ -1,5 +1,5 @@
 -- The list of orders: document 01, "The list and the step", its first sentence.
-use Rattle.std.specs.Prelude.{ℕ, ◌+◌, ◌*◌, ◌/◌, Bool, List, [], ◌∷◌, eqb, ltb, length, get_or}
+use Rattle.std.specs.Prelude.{ℕ, ◌+◌, ◌*◌, ◌/◌, Bool, cond, List, [], ◌∷◌, Option, Some, None, eqb, ltb, length, get_or}
 use Rattle.kit.specs.Bytes.{word_at, long_at}
 use Rattle.kit.specs.Each.{each}
 use Rattle.kit.specs.Loops.{find}
@@ -19,6 +19,10 @@ order_at list j =
 -- D-01: how many orders a list has
 abbrev pub order_count : List ℕ → ℕ
 order_count list = length list / 10
+
+-- one of the first n indices, as an answer that may be none: the searches below answer n where they find nothing
+abbrev pub index_below : ℕ → ℕ → Option ℕ
+index_below n i = cond (ltb i n) (Some i) None
 
 -- R-07, D-07: which of the first n orders has this order number, or n where none has
 unfoldable pub listed_at : List ℕ → ℕ → ℕ → ℕ

@@ -1,14 +1,13 @@
 // The list of orders that a desk is given: any bytes of any length, ten for each order.
 #![tactic(auto)]
 
-ghost use Rattle.std.specs.Prelude.{◌≡◌, cond, eqb};
-ghost use Rattle.order_list.specs.Lists.{order_at, listed_at, numbers_of, found_at};
+ghost use Rattle.std.specs.Prelude.{◌≡◌};
+ghost use Rattle.order_list.specs.Lists.{order_at, index_below, listed_at, numbers_of, found_at};
+
+use std::array;
 
 // How many bytes an order has.
 pub const LENGTH: usize = 10;
-
-// The most orders that a list may have.
-const MOST: usize = 20;
 
 #[derive(Clone, Copy)]
 pub struct Order {
@@ -20,6 +19,7 @@ pub struct Order {
 }
 
 // Order j of a list, counted from 0.
+#[tactic(auto, unfolding(crate::specs::Lists::order_at))]
 pub fn order_at(list: &[u8], j: u8) -> Order
     ensures { result ≡ order_at list.now j }
 {
@@ -33,57 +33,32 @@ pub fn order_at(list: &[u8], j: u8) -> Order
     }
 }
 
-// Which of the first n orders of a list has this order number, or n where none has.
-pub fn listed_at(list: &[u8], n: u8, number: u32) -> u8
-    ensures { result ≡ listed_at list.now n number }
+// Which of the first n orders of a list has this order number, the first that has it.
+pub fn listed_at(list: &[u8], n: u8, number: u32) -> Option<u8>
+    ensures { result ≡ index_below n (listed_at list.now n number) }
 {
-    let mut j: u8 = 0;
-    while j < n {
-        let order = order_at(list, j);
-        if order.number == number {
-            return j;
-        }
-        j += 1;
-    }
-    n
+    (0..n).find(|j| order_at(list, *j).number == number)
 }
 
 // The order numbers of the first twenty orders of a list; 0 past its end.
 pub fn numbers_of(list: &[u8]) -> [u32; 20]
     ensures { result ≡ numbers_of list.now }
 {
-    let mut numbers = [0u32; 20];
-    let mut j: u8 = 0;
-    while j < MOST as u8 {
-        let order = order_at(list, j);
-        numbers[j as usize] = order.number;
-        j += 1;
-    }
-    numbers
+    array::from_fn(|j| order_at(list, j as u8).number)
 }
 
-// A bit where the two numbers are the same, or none.
-fn bit_where(found: u32, number: u32, bit: u32) -> u32
-    ensures { result ≡ cond (eqb found number) bit 0 }
-{
-    if found == number {
-        return bit;
-    }
-    0
-}
-
-// Which of twenty order numbers this is, the lowest, or 20 where it is none of them. All twenty are looked at, one bit for each that is
-// the number: a machine compares several at once, and there is no branch to guess wrong. The bit past them stands for none.
-pub fn found_at(numbers: &[u32; 20], number: u32) -> usize
-    ensures { result ≡ found_at numbers.now number }
+// Which of twenty order numbers this is, the lowest. All twenty are looked at, one bit for each that is the number: a machine compares
+// several at once, and there is no branch to guess wrong.
+pub fn found_at(numbers: &[u32; 20], number: u32) -> Option<usize>
+    ensures { result ≡ index_below 20 (found_at numbers.now number) }
 {
     let mut bits: u32 = 0;
-    let mut bit: u32 = 1;
-    let mut i: usize = 0;
-    while i < MOST {
-        bits += bit_where(numbers[i], number, bit);
-        bit *= 2;
-        i += 1;
+    for (i, found) in numbers.iter().enumerate() {
+        bits |= u32::from(*found == number) << i;
     }
-    u32::trailing_zeros(bits + bit) as usize
+    if bits == 0 {
+        None
+    } else {
+        Some(bits.trailing_zeros() as usize)
+    }
 }

@@ -5,12 +5,13 @@
 ghost use Rattle.std.specs.Prelude.{◌≡◌, ◌<◌, ◌≤◌};
 ghost use Rattle.kit.specs.Each.{each};
 ghost use Rattle.kit.specs.Ladder.{ladder};
-ghost use Rattle.order_list.specs.Lists.{numbers_of};
+ghost use Rattle.wire.specs.Verdicts.{number_in};
+ghost use Rattle.order_list.specs.Lists.{is_listed, numbers_of};
 ghost use Rattle.orders.specs.Orders.{types_of, OfPlaces, is_retyped, order_rows, list_refusal};
 
-use condition::SLOTS;
 use order_list::{LENGTH, Order};
 use places::Place;
+use wire::Refusal;
 
 // The most bytes that a list may have.
 const LONGEST: usize = 200;
@@ -19,84 +20,87 @@ const LONGEST: usize = 200;
 fn types_of(places: [Place; 20]) -> [u8; 20]
     ensures { result ≡ types_of places }
 {
-    let mut types = [0u8; 20];
-    let mut i: usize = 0;
-    while i < SLOTS {
-        let place = places[i];
-        let coded = condition::coded_of(place.slot);
-        types[i] = coded.kind;
-        i += 1;
-    }
-    types
+    places.map(|place| condition::coded_of(place.slot).kind)
 }
 
 // Whether an order is live with another type, by the orders of the places and their types.
 fn is_retyped(live: &[u32; 20], types: &[u8; 20], order: Order) -> bool
     ensures { OfPlaces live.now types.now (λ places. result ≡ is_retyped places order) }
 {
-    let at = order_list::found_at(live, order.number);
-    if at < SLOTS {
-        return types[at] != order.kind;
+    match order_list::found_at(live, order.number) {
+        Some(at) => types[at] != order.kind,
+        None => false,
     }
-    false
 }
 
-// The refusal of order j, or 0, by the orders of the places and their types and by the order numbers of the list.
-fn order_refusal(live: &[u32; 20], types: &[u8; 20], numbers: &[u32; 20], list: &[u8], j: u8) -> u8
+// Whether an order number stands in the list before order j, by the order numbers of the list.
+fn is_earlier(numbers: &[u32; 20], list: &[u8], j: u8, number: u32) -> bool
     requires { (j < 20) × (numbers.now ≡ numbers_of list.now) }
-    ensures { OfPlaces live.now types.now (λ places. result ≡ ladder 0 (order_rows places list.now j)) }
+    ensures { result ≡ is_listed list.now j number }
+{
+    match order_list::found_at(numbers, number) {
+        Some(at) => at < j as usize,
+        None => false,
+    }
+}
+
+// The refusal of order j, by the orders of the places and their types and by the order numbers of the list.
+fn order_refusal(
+    live: &[u32; 20],
+    types: &[u8; 20],
+    numbers: &[u32; 20],
+    list: &[u8],
+    j: u8,
+) -> Result<(), Refusal>
+    requires { (j < 20) × (numbers.now ≡ numbers_of list.now) }
+    ensures { OfPlaces live.now types.now (λ places. number_in result ≡ ladder 0 (order_rows places list.now j)) }
 {
     let order = order_list::order_at(list, j);
     if order.number == 0 {
-        return 3;
+        return Err(Refusal::OrderZero);
     }
     if !kinds::is_kind(order.kind) {
-        return 4;
+        return Err(Refusal::UnknownType);
     }
     if order.spare != 0 {
-        return 5;
+        return Err(Refusal::SpareByte);
     }
     if !kinds::second_allowed(order.kind, order.first, order.second) {
-        return 6;
+        return Err(Refusal::SecondWord);
     }
-    if order_list::found_at(numbers, order.number) < j as usize {
-        return 7;
+    if is_earlier(numbers, list, j, order.number) {
+        return Err(Refusal::OrderTwice);
     }
     if is_retyped(live, types, order) {
-        return 8;
+        return Err(Refusal::TypeChanged);
     }
-    0
+    Ok(())
 }
 
-// The refusal of the first bad order of n, or 0.
-fn orders_refusal(places: [Place; 20], list: &[u8], n: u8) -> u8
+// The refusal of the first bad order of n.
+fn orders_refusal(places: [Place; 20], list: &[u8], n: u8) -> Result<(), Refusal>
     requires { n ≤ 20 }
-    ensures { result ≡ ladder 0 (each (order_rows places list.now) 0 n) }
+    ensures { number_in result ≡ ladder 0 (each (order_rows places list.now) 0 n) }
 {
     let live = places::orders_of(places);
     let types = types_of(places);
     let numbers = order_list::numbers_of(list);
-    let mut j: u8 = 0;
-    while j < n {
-        let refusal = order_refusal(&live, &types, &numbers, list, j);
-        if refusal != 0 {
-            return refusal;
-        }
-        j += 1;
+    for j in 0..n {
+        order_refusal(&live, &types, &numbers, list, j)?;
     }
-    0
+    Ok(())
 }
 
-// The refusal of a list, or 0.
-pub fn refusal_of(places: [Place; 20], list: &[u8]) -> u8
-    ensures { result ≡ list_refusal places list.now }
+// The refusal of a list.
+#[tactic(auto, unfolding(kit::specs::Ladder::ladder, crate::specs::Orders::list_rows))]
+pub fn refusal_of(places: [Place; 20], list: &[u8]) -> Result<(), Refusal>
+    ensures { number_in result ≡ list_refusal places list.now }
 {
-    let length = list.len();
-    if length % LENGTH != 0 {
-        return 1;
+    if list.len() % LENGTH != 0 {
+        return Err(Refusal::NotWholeOrders);
     }
-    if LONGEST < length {
-        return 2;
+    if LONGEST < list.len() {
+        return Err(Refusal::ListTooLong);
     }
-    orders_refusal(places, list, (length / LENGTH) as u8)
+    orders_refusal(places, list, (list.len() / LENGTH) as u8)
 }

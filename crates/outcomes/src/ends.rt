@@ -1,12 +1,11 @@
 // How the reading of an input of lists or calls ended, each after its length.
-ghost use Rattle.std.specs.Prelude.{◌≡◌, cond};
-ghost use Rattle.outcomes.specs.declared.ends.End.TheVariants.{Whole, Short};
+ghost use Rattle.std.specs.Prelude.{◌≡◌};
 ghost use Rattle.outcomes.specs.Ends.{end_by, ends_inside};
 
 use crate::outcomes::State;
 
 // Behind a whole one; inside one; or because a read failed.
-#[derive(Clone, Copy)]
+#[derive(Clone, Copy, Debug, PartialEq, Eq)]
 pub enum End {
     Whole,
     Short,
@@ -18,29 +17,15 @@ pub fn end_of(state: State, begun: bool) -> End
     ensures { result ≡ end_by state begun }
 {
     match state {
-        State::More => End::Failed,
-        State::Again => End::Failed,
-        State::Ended => ended(begun),
-        State::Failed => End::Failed,
+        State::Ended if begun => End::Short,
+        State::Ended => End::Whole,
+        State::More | State::Again | State::Failed => End::Failed,
     }
-}
-
-fn ended(begun: bool) -> End
-    ensures { result ≡ cond begun Short Whole }
-{
-    if begun {
-        return End::Short;
-    }
-    End::Whole
 }
 
 // Whether the input has ended inside a list or call, so that this is said.
 pub fn is_short(end: End) -> bool
     ensures { result ≡ ends_inside end }
 {
-    match end {
-        End::Whole => false,
-        End::Short => true,
-        End::Failed => false,
-    }
+    matches!(end, End::Short)
 }

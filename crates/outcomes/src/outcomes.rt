@@ -4,7 +4,7 @@ ghost use Rattle.std.specs.Prelude.{◌≡◌};
 ghost use Rattle.outcomes.specs.Outcomes.{after_read, after_write, is_again, is_over, is_failed, is_ended};
 
 // Go on; do it again; the input has ended; it failed.
-#[derive(Clone, Copy)]
+#[derive(Clone, Copy, Debug, PartialEq, Eq)]
 pub enum State {
     More,
     Again,
@@ -24,15 +24,14 @@ pub fn read_of(count: usize, failed: bool, interrupted: bool) -> State
     ensures { result ≡ after_read count failed interrupted }
 {
     if 0 < count {
-        return State::More;
+        State::More
+    } else if failed && interrupted {
+        State::Again
+    } else if failed {
+        State::Failed
+    } else {
+        State::Ended
     }
-    if failed {
-        if interrupted {
-            return State::Again;
-        }
-        return State::Failed;
-    }
-    State::Ended
 }
 
 // What follows a write of at least one byte. One that takes nothing has failed.
@@ -40,60 +39,38 @@ pub fn write_of(count: usize, failed: bool, interrupted: bool) -> State
     ensures { result ≡ after_write count failed interrupted }
 {
     if 0 < count {
-        return State::More;
+        State::More
+    } else if failed && interrupted {
+        State::Again
+    } else {
+        State::Failed
     }
-    if failed {
-        if interrupted {
-            return State::Again;
-        }
-    }
-    State::Failed
 }
 
 // Whether the call is made again.
 pub fn is_again(state: State) -> bool
     ensures { result ≡ is_again state }
 {
-    match state {
-        State::More => false,
-        State::Again => true,
-        State::Ended => false,
-        State::Failed => false,
-    }
+    matches!(state, State::Again)
 }
 
 // Whether it is told, and ends the program.
 pub fn is_failed(state: State) -> bool
     ensures { result ≡ is_failed state }
 {
-    match state {
-        State::More => false,
-        State::Again => false,
-        State::Ended => false,
-        State::Failed => true,
-    }
+    matches!(state, State::Failed)
 }
 
 // Whether the input has ended, so that what stands at the end is written.
 pub fn is_ended(state: State) -> bool
     ensures { result ≡ is_ended state }
 {
-    match state {
-        State::More => false,
-        State::Again => false,
-        State::Ended => true,
-        State::Failed => false,
-    }
+    matches!(state, State::Ended)
 }
 
 // Whether nothing more is read.
 pub fn is_over(state: State) -> bool
     ensures { result ≡ is_over state }
 {
-    match state {
-        State::More => false,
-        State::Again => false,
-        State::Ended => true,
-        State::Failed => true,
-    }
+    matches!(state, State::Ended | State::Failed)
 }

@@ -1,9 +1,10 @@
 // How far a reading is: a line on a terminal that is written again and again in its place.
-ghost use Rattle.std.specs.Prelude.{◌≡◌, ◌+◌, min};
+ghost use Rattle.std.specs.Prelude.{◌≡◌};
 ghost use Rattle.kit.specs.Put.{Poured};
-ghost use Rattle.outcomes.specs.Progress.{most_counted, progress_of, advanced_by, is_due, progress_line};
+ghost use Rattle.outcomes.specs.Progress.{progress_of, advanced_by, is_due, progress_line};
 
 // Whether it is shown at all, how many bytes the input has, how many were read, and how many reads ago the line was written, modulo 128.
+// A flag and no Option of the rest: `advanced` and `put_line` keep and put the counts of one that is not shown, too.
 #[derive(Clone, Copy)]
 pub struct Progress {
     pub shown: bool,
@@ -28,15 +29,14 @@ impl Progress {
         }
     }
 
-    // After a read of so many bytes.
+    // After a read of so many bytes. The count stays at the greatest number that it can hold.
     pub fn advanced(self, count: u64) -> Self
         ensures { result ≡ advanced_by self count }
     {
         Progress {
-            shown: self.shown,
-            size: self.size,
-            done: more(self.done, count),
+            done: self.done.saturating_add(count),
             reads: (self.reads % READS + 1) % READS,
+            ..self
         }
     }
 
@@ -44,10 +44,7 @@ impl Progress {
     pub fn is_due(self) -> bool
         ensures { result ≡ is_due self }
     {
-        if self.shown {
-            return self.reads == 0;
-        }
-        false
+        self.shown && self.reads == 0
     }
 
     // `N of M bytes`, and a return to the beginning of the line, so that what is written next stands in its place.
@@ -59,14 +56,4 @@ impl Progress {
         let fourth = text::put_decimal(out, third, self.size);
         text::put_words(out, fourth, b" bytes\r")
     }
-}
-
-// The count stays at the greatest number that it can hold.
-fn more(done: u64, count: u64) -> u64
-    ensures { result ≡ min (done + count) most_counted }
-{
-    if u64::MAX - done < count {
-        return u64::MAX;
-    }
-    done + count
 }

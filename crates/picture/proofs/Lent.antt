@@ -58,9 +58,9 @@ pub record Seen (memory : List ℕ) (i : ℕ) (seen : List Bool) : Type 0 where
   pub long : length seen ≡ 256
   pub flag : (n : ℕ) → n < 256 → get_or seen n false ≡ any (seen_by memory n) 0 i
 
-pub seen_none : (memory : List ℕ) → Seen memory 0 (replicate 256 false)
+pub seen_none : (memory : List ℕ) (seen : List Bool) → seen ≡ replicate 256 false → Seen memory 0 seen
 unfolding scan
-seen_none memory = record { long = length-replicate 256 false; flag = λ n p. replicate-at 256 n false }
+seen_none memory seen e = record { long = ap length e ∙ length-replicate 256 false; flag = λ n p. ap (λ l. get_or l n false) e ∙ replicate-at 256 n false }
 
 or_true : (a : Bool) → a || true ≡ true
 or_true true = refl

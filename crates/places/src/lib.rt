@@ -2,9 +2,11 @@
 #![tactic(auto)]
 
 ghost use Rattle.std.specs.Prelude.{◌≡◌};
+ghost use Rattle.condition.specs.Slots.{slot_count};
+ghost use Rattle.order_list.specs.Lists.{index_below};
 ghost use Rattle.places.specs.Places.{free_place, orders_of, place_of};
 
-use condition::{SLOTS, Slot};
+use condition::Slot;
 
 // A place of the desk: the order that has it, and its slot in the table. Order 0: the place is free.
 #[derive(Clone, Copy)]
@@ -28,19 +30,12 @@ impl Place {
 pub fn orders_of(places: [Place; 20]) -> [u32; 20]
     ensures { result ≡ orders_of places }
 {
-    let mut orders = [0u32; 20];
-    let mut i: usize = 0;
-    while i < SLOTS {
-        orders[i] = places[i].order;
-        i += 1;
-    }
-    orders
+    places.map(|place| place.order)
 }
 
-// The lowest place that an order has, or 20 where it is not live. Of order 0: the lowest free place.
-pub fn place_of(places: [Place; 20], order: u32) -> usize
-    ensures { result ≡ place_of places order }
+// The lowest place that an order has, if it is live. Of order 0: the lowest free place.
+pub fn place_of(places: [Place; 20], order: u32) -> Option<usize>
+    ensures { result ≡ index_below slot_count (place_of places order) }
 {
-    let orders = orders_of(places);
-    order_list::found_at(&orders, order)
+    order_list::found_at(&orders_of(places), order)
 }

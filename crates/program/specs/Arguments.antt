@@ -1,5 +1,5 @@
 -- What a program's arguments ask for: `-` or none for standard input, a name for a file, options, and anything else is told.
-use Rattle.std.specs.Prelude.{ℕ, Bool, true, false, cond, List, [], ◌∷◌, eqb, get_or}
+use Rattle.std.specs.Prelude.{ℕ, Bool, true, false, cond, Option, Some, None, List, [], ◌∷◌, eqb, get_or}
 use Prim.Native.Char.{code}
 use Rattle.kit.specs.Ladder.{ladder}
 use Rattle.kit.specs.Text.{ascii}
@@ -47,38 +47,38 @@ has_summary ReadSignals = false
 
 -- before any argument: the work, on standard input
 abbrev pub nothing_asked : Asked
-nothing_asked = record { task = Work; at = 0; given = false; file = 0; summary = false; progress = false }
+nothing_asked = record { task = Work; at = None; given = false; file = None; summary = false; progress = false }
 
 -- the argument of this index asks for something else than the work
 abbrev pub decided_by : Asked → Task → ℕ → Asked
-decided_by asked task at = record { task = task; at = at; given = asked.given; file = asked.file; summary = asked.summary; progress = asked.progress }
+decided_by asked task at = record { task = task; at = Some at; given = asked.given; file = asked.file; summary = asked.summary; progress = asked.progress }
 
--- it names the input, 0 for standard input, and there is one input only
-abbrev pub with_input : Asked → ℕ → ℕ → Asked
+-- it names the input, none for standard input, and there is one input only
+abbrev pub with_input : Asked → Option ℕ → ℕ → Asked
 with_input asked file at =
     cond asked.given
     (decided_by asked OneInputOnly at)
-    (record { task = Work; at = 0; given = true; file = file; summary = asked.summary; progress = asked.progress })
+    (record { task = Work; at = None; given = true; file = file; summary = asked.summary; progress = asked.progress })
 
 -- it asks for a summary, which a program that has none does not understand
 abbrev pub with_summary : Program → Asked → ℕ → Asked
 with_summary program asked at =
     cond (has_summary program)
-    (record { task = Work; at = 0; given = asked.given; file = asked.file; summary = true; progress = asked.progress })
+    (record { task = Work; at = None; given = asked.given; file = asked.file; summary = true; progress = asked.progress })
     (decided_by asked NotUnderstood at)
 
 abbrev pub with_progress : Asked → Asked
-with_progress asked = record { task = Work; at = 0; given = asked.given; file = asked.file; summary = asked.summary; progress = true }
+with_progress asked = record { task = Work; at = None; given = asked.given; file = asked.file; summary = asked.summary; progress = true }
 
 -- what one argument more asks for
 abbrev pub by_argument : Program → Asked → Argument → ℕ → Asked
-by_argument program asked Standard at = with_input asked 0 at
+by_argument program asked Standard at = with_input asked None at
 by_argument program asked Help at = decided_by asked ShowHelp at
 by_argument program asked Version at = decided_by asked ShowVersion at
 by_argument program asked Summary at = with_summary program asked at
 by_argument program asked Progress at = with_progress asked
 by_argument program asked Unknown at = decided_by asked NotUnderstood at
-by_argument program asked Name at = with_input asked at at
+by_argument program asked Name at = with_input asked (Some at) at
 
 -- the first that asks for something else than the work decides
 abbrev pub asked_with : Program → Asked → Argument → ℕ → Asked

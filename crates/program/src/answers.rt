@@ -11,13 +11,7 @@ use crate::names::{Program, put_name};
 pub fn is_complaint(task: Task) -> bool
     ensures { result ≡ is_complaint task }
 {
-    match task {
-        Task::Work => false,
-        Task::ShowHelp => false,
-        Task::ShowVersion => false,
-        Task::NotUnderstood => true,
-        Task::OneInputOnly => true,
-    }
+    matches!(task, Task::NotUnderstood | Task::OneInputOnly)
 }
 
 fn put_version(program: Program, out: &mut [u8], at: usize) -> usize
@@ -68,17 +62,13 @@ pub fn put_answer(program: Program, task: Task, word: &[u8], out: &mut [u8], at:
     }
 }
 
-fn put_awaited(program: Program, out: &mut [u8], at: usize) -> usize
-    ensures { Poured out.old at (awaited_of program) out.new result }
+fn awaited(program: Program) -> &'static [u8]
+    ensures { result.now ≡ awaited_of program }
 {
     match program {
-        Program::ListConditions => text::put_words(out, at, b"telegrams of 26 bytes"),
-        Program::RunDesk => text::put_words(out, at, b"lists, each after its length in two bytes"),
-        Program::ReadSignals => text::put_words(
-            out,
-            at,
-            b"calls, each after its length in two bytes",
-        ),
+        Program::ListConditions => b"telegrams of 26 bytes",
+        Program::RunDesk => b"lists, each after its length in two bytes",
+        Program::ReadSignals => b"calls, each after its length in two bytes",
     }
 }
 
@@ -88,6 +78,6 @@ pub fn put_awaiting(program: Program, out: &mut [u8], at: usize) -> usize
 {
     let second = put_name(program, out, at);
     let third = text::put_words(out, second, b": awaiting ");
-    let fourth = put_awaited(program, out, third);
+    let fourth = text::put_words(out, third, awaited(program));
     text::put_words(out, fourth, b"; --help says more\n")
 }

@@ -5,7 +5,7 @@ ghost use Rattle.program.specs.Arguments.{is_option, argument_of, is_work, has_s
 use crate::names::Program;
 
 // What one argument is: standard input, an option, a word that begins as one and is none, or the name of a file.
-#[derive(Clone, Copy)]
+#[derive(Clone, Copy, Debug, PartialEq, Eq)]
 pub enum Argument {
     Standard,
     Help,
@@ -17,7 +17,7 @@ pub enum Argument {
 }
 
 // What a program is to do: its work, show its help or its version, or tell of an argument that is not understood or of a second input.
-#[derive(Clone, Copy)]
+#[derive(Clone, Copy, Debug, PartialEq, Eq)]
 pub enum Task {
     Work,
     ShowHelp,
@@ -30,71 +30,56 @@ pub enum Task {
 #[derive(Clone, Copy)]
 pub struct Asked {
     pub task: Task,
-    // the argument that decided the task, 0 where it is the work
-    pub at: usize,
-    // whether an input was named
+    // the argument that decided the task, none where it is the work
+    pub at: Option<usize>,
+    // whether an input was named, standard input or a file. An Option of the input in place of both would leave out records that `with` takes
     pub given: bool,
-    // the argument that names the file, 0 for standard input
-    pub file: usize,
+    // the argument that names the file, none for standard input
+    pub file: Option<usize>,
     pub summary: bool,
     pub progress: bool,
 }
 
 // Whether a text begins with a hyphen, as options do.
+#[tactic(auto, unfolding(crate::specs::Arguments::is_option))]
 fn is_option(text: &[u8]) -> bool
     ensures { result ≡ is_option text.now }
 {
-    if text.len() == 0 {
-        return false;
-    }
-    text[0] == b'-'
+    text.first() == Some(&b'-')
 }
 
+#[tactic(auto, unfolding(crate::specs::Arguments::argument_of, kit::specs::Ladder::ladder))]
 pub fn argument_of(text: &[u8]) -> Argument
     ensures { result ≡ argument_of text.now }
 {
     if same_text::is_same(text, b"-") {
-        return Argument::Standard;
+        Argument::Standard
+    } else if same_text::is_same(text, b"--help") {
+        Argument::Help
+    } else if same_text::is_same(text, b"--version") {
+        Argument::Version
+    } else if same_text::is_same(text, b"--summary") {
+        Argument::Summary
+    } else if same_text::is_same(text, b"--progress") {
+        Argument::Progress
+    } else if is_option(text) {
+        Argument::Unknown
+    } else {
+        Argument::Name
     }
-    if same_text::is_same(text, b"--help") {
-        return Argument::Help;
-    }
-    if same_text::is_same(text, b"--version") {
-        return Argument::Version;
-    }
-    if same_text::is_same(text, b"--summary") {
-        return Argument::Summary;
-    }
-    if same_text::is_same(text, b"--progress") {
-        return Argument::Progress;
-    }
-    if is_option(text) {
-        return Argument::Unknown;
-    }
-    Argument::Name
 }
 
 pub fn is_work(task: Task) -> bool
     ensures { result ≡ is_work task }
 {
-    match task {
-        Task::Work => true,
-        Task::ShowHelp => false,
-        Task::ShowVersion => false,
-        Task::NotUnderstood => false,
-        Task::OneInputOnly => false,
-    }
+    matches!(task, Task::Work)
 }
 
 // Whether a program has a summary to show.
 fn has_summary(program: Program) -> bool
     ensures { result ≡ has_summary program }
 {
-    match program {
-        Program::ListConditions => true,
-        Program::RunDesk => false,
-        Program::ReadSignals => false,
-    }
+    matches!(program, Program::ListConditions)
 }
 
 impl Asked {
@@ -104,9 +89,9 @@ impl Asked {
     {
         Asked {
             task: Task::Work,
-            at: 0,
+            at: None,
             given: false,
-            file: 0,
+            file: None,
             summary: false,
             progress: false,
         }
@@ -116,11 +101,11 @@ impl Asked {
     pub fn with(self, program: Program, argument: Argument, at: usize) -> Self
         ensures { result ≡ asked_with program self argument at }
     {
-        let task = self.task;
-        if is_work(task) {
-            return by_argument(self, program, argument, at);
+        if is_work(self.task) {
+            by_argument(self, program, argument, at)
+        } else {
+            self
         }
-        self
     }
 }
 
@@ -129,13 +114,13 @@ fn by_argument(asked: Asked, program: Program, argument: Argument, at: usize) ->
     ensures { result ≡ by_argument program asked argument at }
 {
     match argument {
-        Argument::Standard => with_input(asked, 0, at),
+        Argument::Standard => with_input(asked, None, at),
         Argument::Help => decided(asked, Task::ShowHelp, at),
         Argument::Version => decided(asked, Task::ShowVersion, at),
         Argument::Summary => with_summary(asked, program, at),
         Argument::Progress => with_progress(asked),
         Argument::Unknown => decided(asked, Task::NotUnderstood, at),
-        Argument::Name => with_input(asked, at, at),
+        Argument::Name => with_input(asked, Some(at), at),
     }
 }
 
@@ -144,16 +129,13 @@ fn decided(asked: Asked, task: Task, at: usize) -> Asked
 {
     Asked {
         task,
-        at,
-        given: asked.given,
-        file: asked.file,
-        summary: asked.summary,
-        progress: asked.progress,
+        at: Some(at),
+        ..asked
     }
 }
 
 // With its input, a file or standard input, where none was named before.
-fn with_input(asked: Asked, file: usize, at: usize) -> Asked
+fn with_input(asked: Asked, file: Option<usize>, at: usize) -> Asked
     ensures { result ≡ with_input asked file at }
 {
     if asked.given {
@@ -161,11 +143,10 @@ fn with_input(asked: Asked, file: usize, at: usize) -> Asked
     }
     Asked {
         task: Task::Work,
-        at: 0,
+        at: None,
         given: true,
         file,
-        summary: asked.summary,
-        progress: asked.progress,
+        ..asked
     }
 }
 
@@ -173,17 +154,15 @@ fn with_input(asked: Asked, file: usize, at: usize) -> Asked
 fn with_summary(asked: Asked, program: Program, at: usize) -> Asked
     ensures { result ≡ with_summary program asked at }
 {
-    if has_summary(program) {
-        return Asked {
-            task: Task::Work,
-            at: 0,
-            given: asked.given,
-            file: asked.file,
-            summary: true,
-            progress: asked.progress,
-        };
+    if !has_summary(program) {
+        return decided(asked, Task::NotUnderstood, at);
     }
-    decided(asked, Task::NotUnderstood, at)
+    Asked {
+        task: Task::Work,
+        at: None,
+        summary: true,
+        ..asked
+    }
 }
 
 fn with_progress(asked: Asked) -> Asked
@@ -191,10 +170,8 @@ fn with_progress(asked: Asked) -> Asked
 {
     Asked {
         task: Task::Work,
-        at: 0,
-        given: asked.given,
-        file: asked.file,
-        summary: asked.summary,
+        at: None,
         progress: true,
+        ..asked
     }
 }

@@ -1,4 +1,5 @@
 // The page that `--help` shows, of each program. The manual pages are made of the same text.
+ghost use Rattle.std.specs.Prelude.{◌≡◌};
 ghost use Rattle.kit.specs.Put.{Poured};
 ghost use Rattle.program.specs.Help.{help_text};
 
@@ -74,12 +75,18 @@ Failures: a read or a write that fails ends the program with a line on error\n\
 Example:\n\
 \x20 read_signals calls.bin\n";
 
+fn help(program: Program) -> &'static [u8]
+    ensures { result.now ≡ help_text program }
+{
+    match program {
+        Program::ListConditions => &LIST_CONDITIONS,
+        Program::RunDesk => &RUN_DESK,
+        Program::ReadSignals => &READ_SIGNALS,
+    }
+}
+
 pub fn put_help(program: Program, out: &mut [u8], at: usize) -> usize
     ensures { Poured out.old at (help_text program) out.new result }
 {
-    match program {
-        Program::ListConditions => text::put_words(out, at, &LIST_CONDITIONS),
-        Program::RunDesk => text::put_words(out, at, &RUN_DESK),
-        Program::ReadSignals => text::put_words(out, at, &READ_SIGNALS),
-    }
+    text::put_words(out, at, help(program))
 }

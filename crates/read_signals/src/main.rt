@@ -125,10 +125,11 @@ fn read_call(rt: &HostRuntime, source: &Source, name: &[u8], bytes: &mut [u8]) -
 }
 
 // Hands one call to the record, which is lent for it, and shows the answer.
+#[tactic(auto, unfolding(signals::specs::Signals::update_of))]
 fn take(rt: &HostRuntime, signals: Signals, present: bool, telegram: &[u8]) -> Taken
     ensures { result.signals ≡ (update_of signals present telegram.now).signals }
 {
-    let updated = signals_in_place::lend_and_update(signals, present, telegram);
+    let updated = signals_in_place::lend_and_update(signals, present.then_some(telegram));
     let written = show_line(rt, updated);
     let next = updated.signals;
     Taken {

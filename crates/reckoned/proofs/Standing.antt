@@ -12,10 +12,9 @@ use Rattle.kit.specs.Loops.{scan, fold}
 use Rattle.kit.proofs.Cases.{on}
 use Rattle.condition.specs.Slots.{body_of, coded_of}
 use Rattle.wire.specs.Steps.{steps, gap_of}
-use Rattle.wire.specs.Verdicts.{verdict_of}
+use Rattle.wire.specs.Verdicts.{Accepted, verdict_of}
 use Rattle.kinds.specs.Words.{is_considered, second_allowed, second_held}
 use Rattle.condition.specs.declared.slots.Body.TheVariants.{Area}
-use Rattle.wire.specs.declared.verdicts.Verdict.TheVariants.{Accepted}
 use Rattle.order_list.specs.Lists.{order_at, listed_at}
 use Rattle.places.specs.Places.{free_place, place_of}
 use Rattle.orders.specs.Orders.{order_rows, is_retyped, list_rows}

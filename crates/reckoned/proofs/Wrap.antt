@@ -19,8 +19,7 @@ use Rattle.resting.specs.Rests.{none_ended, rests_by, is_resting}
 use Rattle.numbers.specs.Numbers.{has_number, next_number}
 use Rattle.desk.specs.Desks.{base_rest, fresh_with, accept_of}
 use Rattle.claims.specs.Calls.{desk_after, steps_made}
-use Rattle.wire.specs.Verdicts.{verdict_of}
-use Rattle.wire.specs.declared.verdicts.Verdict.TheVariants.{Accepted}
+use Rattle.wire.specs.Verdicts.{Accepted, verdict_of}
 use Rattle.claims.proofs.History.{accepted-more}
 use Rattle.orders.specs.Orders.{order_rows, is_retyped, list_rows}
 use Rattle.leaving.specs.Leaving.{kept_among, ended_entry, ended_among}

@@ -7,8 +7,7 @@ use Rattle.condition.specs.Slots.{empty_slot}
 use Rattle.condition.specs.declared.slots.Body.{Body}
 use Rattle.condition.specs.declared.slots.Body.TheVariants as Body'
 use Rattle.condition.specs.declared.slots.Slot.{Slot}
-use Rattle.telegram.specs.Telegrams.{blank_telegram, read_of, bytes_of}
-use Rattle.telegram.specs.declared.Reading.{Reading}
+use Rattle.telegram.specs.Telegrams.{Reading, blank_telegram, read_of, bytes_of}
 use Rattle.telegram.specs.declared.Telegram.{Telegram}
 use Rattle.places.specs.declared.Place.{Place}
 use Rattle.desk.specs.Desks.{base_rest, fresh_desk, accept_of, table_of}

@@ -2,7 +2,7 @@
 // the desk hands in.
 #![tactic(auto)]
 
-ghost use Rattle.std.specs.Prelude.{true, cond, ◌≡◌, ◌<◌};
+ghost use Rattle.std.specs.Prelude.{◌≡◌};
 ghost use Rattle.resting.specs.Rests.{none_ended, rests_by, is_resting};
 
 // How many numbers can have ended and still be kept.
@@ -24,35 +24,21 @@ impl Ended {
 }
 
 // Whether a number rests in this step because of this entry.
+#[tactic(auto, unfolding(crate::specs::Rests::rests_by))]
 fn rests_by(entry: Ended, rest: u16, step: u16, number: u8) -> bool
     ensures { result ≡ rests_by rest step number entry }
 {
-    if entry.number != number {
-        return false;
-    }
-    wire::gap(step, entry.step) < rest
+    entry.number == number && wire::gap(step, entry.step) < rest
 }
 
-// Whether the one or the other.
-fn either(one: bool, other: bool) -> bool
-    ensures { result ≡ cond one true other }
-{
-    if one {
-        return true;
-    }
-    other
-}
-
-// Whether a number rests in this step. All entries are looked at, from the last to the first: a machine judges several at once, and
-// there is no branch to guess wrong.
+// Whether a number rests in this step. All entries are looked at: a machine judges several at once, and there is no branch to guess
+// wrong.
 pub fn is_resting(ended: [Ended; 160], rest: u16, step: u16, number: u8) -> bool
     ensures { result ≡ is_resting rest step ended number }
 {
     let mut rests = false;
-    let mut i: usize = KEPT;
-    while 0 < i {
-        i -= 1;
-        rests = either(rests_by(ended[i], rest, step, number), rests);
+    for entry in &ended {
+        rests |= rests_by(*entry, rest, step, number);
     }
     rests
 }

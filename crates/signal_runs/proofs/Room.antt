@@ -7,8 +7,7 @@ use lib.Dec.{eqb}
 use lib.ListN.{length, length-append}
 use native.Mathlib.Omega.{arith}
 use Rattle.kit.proofs.Ladder.{decides_such}
-use Rattle.wire.specs.declared.verdicts.Verdict.{Verdict}
-use Rattle.wire.specs.declared.verdicts.Verdict.TheVariants.{Accepted, Refused}
+use Rattle.wire.specs.Verdicts.{Verdict, Accepted, Refused}
 use Rattle.frames.specs.Frames.{Framed, calls_of, short_tail}
 use Rattle.frames.proofs.Splitting.{tail-most}
 use Rattle.train_codes.specs.Refusals.{train_rows}

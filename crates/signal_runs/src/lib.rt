@@ -20,32 +20,32 @@ struct Spoken {
 }
 
 // One call: its line, and the next record. The record is lent for the call and updated where it is.
+#[tactic(auto, unfolding(crate::specs::Runs::updated_by, signals::specs::Signals::update_of))]
 fn tell(signals: Signals, announced: u16, bytes: &[u8], lines: &mut [u8], at: usize) -> Spoken
     ensures { (result.signals ≡ (updated_by signals (announced, bytes.now)).signals)
         × Poured lines.old at (line_of (updated_by signals (announced, bytes.now))) lines.new result.at }
 {
-    let updated = signals_in_place::lend_and_update(signals, announced != NO_TELEGRAM, bytes);
-    let next = updated.signals;
-    let past = signals_output::put_line(updated, lines, at);
+    let telegram = (announced != NO_TELEGRAM).then_some(bytes);
+    let updated = signals_in_place::lend_and_update(signals, telegram);
     Spoken {
-        signals: next,
-        at: past,
+        signals: updated.signals,
+        at: signals_output::put_line(updated, lines, at),
     }
 }
 
 // The lines of all calls, from a fresh record on, and `short call` where the input ends inside one; the answer is the place past them.
 // What has no room before the buffer's end is dropped.
+#[tactic(auto, using(frames::proofs::Splitting::call_bounds))]
 pub fn read(input: &[u8], lines: &mut [u8]) -> usize
     ensures { Poured lines.old 0 (signal_lines input.now) lines.new result }
 {
     let mut signals = Signals::fresh();
     let mut rest = input;
     let mut at: usize = 0;
-    while 0 < rest.len() {
-        let size = frames::call_size(rest, NO_TELEGRAM as u32);
-        if size == 0 {
+    while !rest.is_empty() {
+        let Some(size) = frames::call_size(rest, Some(NO_TELEGRAM)) else {
             return signals_output::put_short(lines, at);
-        }
+        };
         let told = tell(
             signals,
             wire::word_at(rest, 0),

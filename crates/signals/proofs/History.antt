@@ -12,7 +12,7 @@ use Rattle.train_codes.specs.Refusals.{train_refusal}
 use Rattle.train_telegram.specs.Readings.{train_reading, Shows}
 use Rattle.train_telegram.specs.States.{states_of, silent}
 use Rattle.train_telegram.specs.declared.states.States.{States}
-use Rattle.train_telegram.specs.declared.Reading.{Reading}
+use Rattle.train_telegram.specs.Readings.{Reading}
 use Rattle.train_telegram.proofs.Showing.{states-show}
 use Rattle.train_telegram.proofs.Refusals.{read_refused, read-accepted}
 use Rattle.signals.specs.Answers.{Updating}

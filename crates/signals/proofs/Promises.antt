@@ -5,8 +5,7 @@ use mathlib.Core.List.{List, []}
 use mathlib.Core.Logic.{◌↔◌, inl}
 use mathlib.Core.Path.{◌≡◌, refl, sym, ap, ◌∙◌, subst}
 use Rattle.kit.specs.Ladder.{Decides, NoneHolds}
-use Rattle.wire.specs.declared.verdicts.Verdict.{Verdict}
-use Rattle.wire.specs.declared.verdicts.Verdict.TheVariants.{Accepted, Refused}
+use Rattle.wire.specs.Verdicts.{Verdict, Accepted, Refused}
 use Rattle.train_codes.specs.Refusals.{train_rows}
 use Rattle.train_telegram.specs.Readings.{train_reading, Shows}
 use Rattle.train_telegram.specs.States.{states_of}

@@ -3,9 +3,9 @@ use Prim.Native.Nat.{ℕ}
 use mathlib.Core.Bool.{true, false}
 use mathlib.Core.List.{List}
 use mathlib.Core.Path.{◌≡◌, refl, sym, ap, ◌∙◌}
-use Rattle.wire.specs.declared.verdicts.Verdict.TheVariants.{Accepted, Refused}
+use Rattle.wire.specs.Verdicts.{Accepted, Refused}
 use Rattle.train_telegram.specs.Readings.{train_reading}
-use Rattle.train_telegram.specs.declared.Reading.{Reading}
+use Rattle.train_telegram.specs.Readings.{Reading}
 use Rattle.signals.specs.Answers.{acceptance, absence, refusal_under, Updating}
 use Rattle.signals.specs.Signals.{signals_with, missed_by, after_train_reading, update_of}
 use Rattle.signals.specs.declared.Signals.{Signals}

@@ -1,7 +1,6 @@
 -- The record of signals: document 01, "Signals from the train", its last paragraph, sentence by sentence.
-use Rattle.std.specs.Prelude.{ℕ, ◌+◌, min, Bool, true, false, cond, List, ltb}
-use Rattle.wire.specs.declared.verdicts.Verdict.{Verdict}
-use Rattle.wire.specs.declared.verdicts.Verdict.TheVariants.{Accepted, Refused}
+use Rattle.std.specs.Prelude.{ℕ, ◌+◌, min, Bool, true, false, cond, List, [], ltb, Option, None, Some}
+use Rattle.wire.specs.Verdicts.{Verdict, Accepted, Refused}
 use Rattle.train_telegram.specs.States.{silent}
 use Rattle.train_telegram.specs.Readings.{train_reading}
 use Rattle.train_telegram.specs.declared.states.States.{States}
@@ -32,3 +31,8 @@ after_train_reading signals Accepted states = record { noted = acceptance; signa
 unfoldable pub update_of : Signals → Bool → List ℕ → Updating
 update_of signals false telegram = record { noted = absence; signals = missed_by signals }
 update_of signals true telegram = after_train_reading signals (train_reading telegram).verdict (train_reading telegram).states
+
+-- M-1b, S-14: the same of what the code takes, a telegram or none
+abbrev pub update_by : Signals → Option (List ℕ) → Updating
+update_by signals None = update_of signals false []
+update_by signals (Some telegram) = update_of signals true telegram

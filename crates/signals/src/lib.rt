@@ -1,12 +1,11 @@
 // The record of signals from the train: what each call makes of it, a call with a telegram and one without.
 #![tactic(auto)]
 
-ghost use Rattle.std.specs.Prelude.{◌≡◌};
+ghost use Rattle.std.specs.Prelude.{◌≡◌, option_copied};
 ghost use Rattle.signals.specs.Answers.{updating_of};
-ghost use Rattle.signals.specs.Signals.{fresh_signals, missed_by, update_of};
+ghost use Rattle.signals.specs.Signals.{fresh_signals, missed_by, update_by};
 
 use train_telegram::States;
-use wire::Verdict;
 
 // At this many misses in a row every signal is silent, and the count stops.
 const MISSES_MOST: u8 = 3;
@@ -18,7 +17,8 @@ pub struct Signals {
     pub misses: u8,
 }
 
-// What is answered to a call: accepted, missed (it had no telegram), or refused under the number of document 01.
+// What is answered to a call: accepted, missed (it had no telegram), or refused under the number of document 01. The refusal is a number
+// of any size, and no `Refusal`, since `put_line` of signals_output writes every number.
 #[derive(Clone, Copy)]
 pub enum Answer {
     Accepted,
@@ -34,24 +34,26 @@ pub struct Updated {
 }
 
 // The record after a miss.
+#[tactic(auto, unfolding(crate::specs::Signals::missed_by))]
 fn missed(signals: Signals) -> Signals
     ensures { result ≡ missed_by signals }
 {
-    let states = signals.states;
     if signals.misses < MISSES_MOST - 1 {
-        return Signals {
-            states,
+        Signals {
+            states: signals.states,
             misses: signals.misses + 1,
-        };
-    }
-    Signals {
-        states: States::silent(),
-        misses: MISSES_MOST,
+        }
+    } else {
+        Signals {
+            states: States::silent(),
+            misses: MISSES_MOST,
+        }
     }
 }
 
 impl Signals {
     // Silent, and no miss yet.
+    #[tactic(auto, unfolding(crate::specs::Signals::fresh_signals))]
     pub fn fresh() -> Self
         ensures { result ≡ fresh_signals }
     {
@@ -61,27 +63,25 @@ impl Signals {
         }
     }
 
-    // One call: with a telegram of any bytes and any length, or with none. Where none is present the bytes are not looked at.
-    pub fn update(self, present: bool, telegram: &[u8]) -> Updated
-        ensures { updating_of result ≡ update_of self present telegram.now }
+    // One call: with a telegram of any bytes and any length, or with none.
+    #[tactic(auto, unfolding(crate::specs::Signals::update_of))]
+    pub fn update(self, telegram: Option<&[u8]>) -> Updated
+        ensures { updating_of result ≡ update_by self (option_copied telegram.entry) }
     {
-        if !present {
+        let Some(telegram) = telegram else {
             return Updated {
                 answer: Answer::Missed,
                 signals: missed(self),
             };
-        }
-        let reading = train_telegram::read(telegram);
-        let verdict = reading.verdict;
-        let states = reading.states;
-        match verdict {
-            Verdict::Refused(number) => Updated {
-                answer: Answer::Refused(number),
-                signals: missed(self),
-            },
-            Verdict::Accepted => Updated {
+        };
+        match train_telegram::read(telegram) {
+            Ok(states) => Updated {
                 answer: Answer::Accepted,
                 signals: Signals { states, misses: 0 },
+            },
+            Err(refusal) => Updated {
+                answer: Answer::Refused(refusal.into()),
+                signals: missed(self),
             },
         }
     }

@@ -10,7 +10,6 @@ use Rattle.text.specs.Words.{refused_word}
 use Rattle.text.proofs.Numerals.{decimal_byte}
 use Rattle.state_words.specs.Words.{cab_word, brake_word, traction_word}
 use Rattle.state_words.proofs.Length.{cab-short, brake-short, isolation-short, traction-short}
-use Rattle.train_telegram.specs.States.{system_with}
 use Rattle.train_codes.specs.declared.Isolation.TheVariants as Isolation'
 use Rattle.train_telegram.specs.declared.states.States.{States}
 use Rattle.signals.specs.Answers.{Receipt, receipt_accepted, receipt_missed, receipt_refused, Updating}
@@ -32,7 +31,7 @@ states-short states =
       length-append systems (traction_word states.traction),
       cab-short states.cab,
       brake-short states.brake,
-      length-each-most (national_word states.national) 13 (λ i. isolation-short (get_or states.national i (system_with Isolation'.Silent)).isolation) 0 16,
+      length-each-most (national_word states.national) 13 (λ i. isolation-short (get_or states.national i Isolation'.Silent)) 0 16,
       traction-short states.traction,
     )
 

@@ -5,9 +5,8 @@ use Rattle.kit.specs.Text.{ascii}
 use Rattle.text.specs.Decimals.{decimal}
 use Rattle.text.specs.Words.{blank, refused_word}
 use Rattle.state_words.specs.Words.{cab_word, brake_word, isolation_word, traction_word}
-use Rattle.train_telegram.specs.States.{system_with}
+use Rattle.train_codes.specs.declared.Isolation.{Isolation}
 use Rattle.train_codes.specs.declared.Isolation.TheVariants as Isolation'
-use Rattle.train_telegram.specs.declared.states.National.{National}
 use Rattle.train_telegram.specs.declared.states.States.{States}
 use Rattle.signals.specs.Answers.{Receipt, receipt_accepted, receipt_missed, receipt_refused, Noted, Updating}
 
@@ -34,8 +33,8 @@ abbrev pub misses_word : ℕ → List ℕ
 misses_word misses = blank ∷ decimal misses
 
 -- S-05: of system i + 1
-abbrev pub national_word : List National → ℕ → List ℕ
-national_word national i = isolation_word (get_or national i (system_with Isolation'.Silent)).isolation
+abbrev pub national_word : List Isolation → ℕ → List ℕ
+national_word national i = isolation_word (get_or national i Isolation'.Silent)
 
 -- cab, brake position, the sixteen systems from 1, the traction systems
 unfoldable pub state_words : States → List ℕ

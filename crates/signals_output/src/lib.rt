@@ -11,7 +11,8 @@ ghost use Rattle.signals.specs.Answers.{noted_of, updating_of};
 ghost use Rattle.signals_output.specs.Lines.{answer_words, misses_word, national_word, state_words, line_of, short_call_line};
 
 use signals::{Answer, Updated};
-use train_telegram::{National, States};
+use train_codes::Isolation;
+use train_telegram::States;
 
 // Each word after the first has a blank before it.
 const BLANK: u8 = b' ';
@@ -27,7 +28,7 @@ fn put_answer(answer: Answer, page: &mut [u8], at: usize) -> usize
         Answer::Missed => page::put_short_text(page, at, b"missed"),
         Answer::Refused(number) => {
             let next = page::put_short_text(page, at, b"refused ");
-            page::put_bare_number(page, next, number as u16)
+            page::put_bare_number(page, next, number.into())
         }
     }
 }
@@ -37,55 +38,47 @@ fn put_misses(misses: u8, page: &mut [u8], at: usize) -> usize
     ensures { Paged 6 page.old at (misses_word misses) page.new result }
 {
     let next = page::put_byte(page, at, BLANK);
-    page::put_bare_number(page, next, misses as u16)
+    page::put_bare_number(page, next, misses.into())
 }
 
 // The sixteen systems, from 1.
-fn put_national(national: [National; 16], page: &mut [u8], at: usize) -> usize
+fn put_national(national: [Isolation; 16], page: &mut [u8], at: usize) -> usize
     requires { at + 256 ≤ length page.old }
     ensures { Paged 256 page.old at (each (national_word national) 0 16) page.new result }
 {
     let mut next = at;
-    let mut i: usize = 0;
-    while i < 16 {
-        let system = national[i];
-        let isolation = system.isolation;
-        next = words::put_isolation(isolation, page, next);
-        i += 1;
+    for isolation in &national {
+        next = page::put_word(page, next, words::isolation_word(*isolation));
     }
     next
 }
 
+#[tactic(auto, unfolding(crate::specs::Lines::state_words))]
 fn put_states(states: States, page: &mut [u8], at: usize) -> usize
     requires { at + 304 ≤ length page.old }
     ensures { Paged 304 page.old at (state_words states) page.new result }
 {
-    let cab = states.cab;
-    let brake = states.brake;
-    let national = states.national;
-    let traction = states.traction;
-    let second = words::put_cab(cab, page, at);
-    let third = words::put_brake(brake, page, second);
-    let fourth = put_national(national, page, third);
-    words::put_traction(traction, page, fourth)
+    let second = page::put_word(page, at, words::cab_word(states.cab));
+    let third = page::put_word(page, second, words::brake_word(states.brake));
+    let fourth = put_national(states.national, page, third);
+    words::put_traction(states.traction, page, fourth)
 }
 
 // The answer to a call and the record after it, made on a page and copied from it.
+#[tactic(auto, unfolding(crate::specs::Lines::line_of))]
 pub fn put_line(updated: Updated, line: &mut [u8], at: usize) -> usize
     ensures { Poured line.old at (line_of (updating_of updated)) line.new result }
 {
-    let answer = updated.answer;
-    let signals = updated.signals;
-    let states = signals.states;
     let mut page = [0u8; 328];
-    let second = put_answer(answer, &mut page, 0);
-    let third = put_misses(signals.misses, &mut page, second);
-    let fourth = put_states(states, &mut page, third);
+    let second = put_answer(updated.answer, &mut page, 0);
+    let third = put_misses(updated.signals.misses, &mut page, second);
+    let fourth = put_states(updated.signals.states, &mut page, third);
     let end = page::put_byte(&mut page, fourth, LINE_FEED);
-    text::put_words(line, at, &page[0..end])
+    text::put_words(line, at, &page[..end])
 }
 
 // `short call` and a line feed.
+#[tactic(auto, unfolding(crate::specs::Lines::short_call_line))]
 pub fn put_short(line: &mut [u8], at: usize) -> usize
     ensures { Poured line.old at short_call_line line.new result }
 {

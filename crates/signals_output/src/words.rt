@@ -9,7 +9,8 @@ use train_codes::{Brake, Cab, Isolation, Traction};
 
 const BLANK: u8 = b' ';
 
-fn cab_word(cab: Cab) -> Word
+#[tactic(auto, unfolding(page::specs::Words::bytes_of_word, page::specs::Words::packed_word, page::specs::Packed::number_made, page::specs::Packed::low_bytes))]
+pub fn cab_word(cab: Cab) -> Word
     ensures { bytes_of_word result ≡ cab_word cab }
 {
     match cab {
@@ -21,7 +22,8 @@ fn cab_word(cab: Cab) -> Word
     }
 }
 
-fn brake_word(brake: Brake) -> Word
+#[tactic(auto, unfolding(page::specs::Words::bytes_of_word, page::specs::Words::packed_word, page::specs::Packed::number_made, page::specs::Packed::low_bytes))]
+pub fn brake_word(brake: Brake) -> Word
     ensures { bytes_of_word result ≡ brake_word brake }
 {
     match brake {
@@ -34,7 +36,8 @@ fn brake_word(brake: Brake) -> Word
     }
 }
 
-fn isolation_word(isolation: Isolation) -> Word
+#[tactic(auto, unfolding(page::specs::Words::bytes_of_word, page::specs::Words::packed_word, page::specs::Packed::number_made, page::specs::Packed::low_bytes))]
+pub fn isolation_word(isolation: Isolation) -> Word
     ensures { bytes_of_word result ≡ isolation_word isolation }
 {
     match isolation {
@@ -43,27 +46,6 @@ fn isolation_word(isolation: Isolation) -> Word
         Isolation::NotIsolated => page::word_of(b" not-isolated"),
         Isolation::Invalid => page::word_of(b" invalid"),
     }
-}
-
-pub fn put_cab(cab: Cab, page: &mut [u8], at: usize) -> usize
-    requires { at + 16 ≤ length page.old }
-    ensures { Paged 16 page.old at (cab_word cab) page.new result }
-{
-    page::put_word(page, at, cab_word(cab))
-}
-
-pub fn put_brake(brake: Brake, page: &mut [u8], at: usize) -> usize
-    requires { at + 16 ≤ length page.old }
-    ensures { Paged 16 page.old at (brake_word brake) page.new result }
-{
-    page::put_word(page, at, brake_word(brake))
-}
-
-pub fn put_isolation(isolation: Isolation, page: &mut [u8], at: usize) -> usize
-    requires { at + 16 ≤ length page.old }
-    ensures { Paged 16 page.old at (isolation_word isolation) page.new result }
-{
-    page::put_word(page, at, isolation_word(isolation))
 }
 
 pub fn put_traction(traction: Traction, page: &mut [u8], at: usize) -> usize

@@ -7,9 +7,10 @@ mod arguments;
 mod input;
 mod output;
 mod progress;
+mod system;
 mod telling;
+mod work;
 
-pub use arguments::{answer, asked};
-pub use input::{Opened, Source, open, read, read_full, say_awaiting};
-pub use output::{Output, write};
-pub use progress::{end_progress, progress_of, went_on};
+pub use input::{Opened, Source};
+pub use output::Output;
+pub use system::System;

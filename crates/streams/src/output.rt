@@ -1,9 +1,10 @@
 // Standard output and error output.
-ghost use Rattle.io.specs.Counts.{IsPrefixLen};
-
-use crate::telling::{Tried, is_interrupted, tell_tried};
-use outcomes::Moved;
-use program::{Doing, Program};
+use crate::system::System;
+use crate::telling::is_interrupted;
+use outcomes::State;
+use program::Doing;
+use std::io;
+use std::io::{Error, ErrorKind};
 
 // Which of the two is written to.
 #[derive(Clone, Copy)]
@@ -12,54 +13,42 @@ pub enum Output {
     Errors,
 }
 
-// One write.
-fn write_once(rt: &HostRuntime, output: Output, bytes: &[u8]) -> Tried
-    ensures { IsPrefixLen result.moved.count bytes.now }
-{
-    let answer = match output {
-        Output::Standard => rt.stdout().write_some(bytes),
-        Output::Errors => rt.stderr().write_some(bytes),
-    };
-    match answer {
-        Ok(count) => Tried {
-            moved: Moved {
-                count,
-                state: outcomes::write_of(count, false, false),
-            },
-            reason: None,
-        },
-        Err(error) => Tried {
-            moved: Moved {
-                count: 0,
-                state: outcomes::write_of(0, true, is_interrupted(&error)),
-            },
-            reason: Some(error),
-        },
+impl System<'_> {
+    // Writes all of these bytes and answers true, or stops at the first write that fails, tells it, and answers false.
+    pub fn write(self, output: Output, bytes: &[u8]) -> bool {
+        let mut rest = bytes;
+        for _ in 0..u64::MAX {
+            if rest.is_empty() {
+                return true;
+            }
+            let tried = match output {
+                Output::Standard => self.rt.stdout().write_some(rest),
+                Output::Errors => self.rt.stderr().write_some(rest),
+            };
+            if outcomes::is_failed(state_of(&tried)) {
+                self.tell_write(output, tried.err());
+                return false;
+            }
+            rest = &rest[tried.unwrap_or(0)..];
+        }
+        false
+    }
+
+    // Tells of a write that failed. The system has no reason for one that took nothing.
+    fn tell_write(self, output: Output, reason: Option<Error>) {
+        let doing = match output {
+            Output::Standard => Doing::Writing,
+            Output::Errors => Doing::Telling,
+        };
+        let reason = reason.unwrap_or(Error::from(ErrorKind::WriteZero));
+        self.tell(doing, b"", &reason);
     }
 }
 
-// Writes all of these bytes and answers true, or stops at the first write that fails, tells it, and answers false.
-pub fn write(rt: &HostRuntime, program: Program, output: Output, bytes: &[u8]) -> bool {
-    let mut done: usize = 0;
-    for _ in 0..u64::MAX {
-        if done >= bytes.len() {
-            return true;
-        }
-        let tried = write_once(rt, output, &bytes[done..]);
-        let state = tried.moved.state;
-        if outcomes::is_failed(state) {
-            tell_write(rt, program, output, tried);
-            return false;
-        }
-        done += tried.moved.count;
-    }
-    false
-}
-
-// Tells of a write that failed.
-fn tell_write(rt: &HostRuntime, program: Program, output: Output, tried: Tried) {
-    match output {
-        Output::Standard => tell_tried(rt, program, Doing::Writing, b"", tried),
-        Output::Errors => tell_tried(rt, program, Doing::Telling, b"", tried),
+// What follows a write.
+fn state_of(tried: &io::Result<usize>) -> State {
+    match tried {
+        Ok(count) => outcomes::write_of(*count, false, false),
+        Err(error) => outcomes::write_of(0, true, is_interrupted(error)),
     }
 }

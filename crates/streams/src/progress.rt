@@ -1,75 +1,91 @@
 // How far the reading is, on error output where that is a terminal.
-ghost use Rattle.std.specs.Prelude.{◌≡◌};
+ghost use Rattle.std.specs.Prelude.{◌≡◌, false, IfNone};
+ghost use Rattle.streams.specs.Inputs.{is_standard};
 
 use crate::input::{Opened, Source};
-use crate::telling::say;
+use crate::system::System;
 use outcomes::Progress;
 use program::Asked;
 use std::fs::{File, Files, OpenOptions};
 use std::io;
 use std::io::{IsTerminal, Read, Seek, SeekFrom};
 
-// Whether it is shown: it was asked for, error output is a terminal, and how many bytes the input still has is known and not 0.
-pub fn progress_of(rt: &HostRuntime, asked: Asked, source: &mut Source) -> Progress
-    ensures same_length { source.new.length ≡ source.old.length }
-    ensures same_kind { source.new.standard ≡ source.old.standard }
-{
-    if !asked.progress {
-        return Progress::of(false, 0);
+impl Source<'_> {
+    // Whether it is shown: it was asked for, error output is a terminal, and how many bytes the input still has is known and not 0.
+    pub fn progress_of(&mut self, asked: Asked) -> Progress
+        ensures same_name { self.new.name.now ≡ self.old.name.now }
+        ensures same_kind { is_standard self.new.opened ≡ is_standard self.old.opened }
+    {
+        if !asked.progress || !self.system.rt.stderr().is_terminal() {
+            return Progress::of(false, 0);
+        }
+        let Some(left) = self.left() else {
+            // no byte may be read from another place, so that the next read must fail, which is told
+            self.opened = Opened::Lost;
+            return Progress::of(false, 0);
+        };
+        Progress::of(0 < left, left)
     }
-    if !rt.stderr().is_terminal() {
-        return Progress::of(false, 0);
-    }
-    let measured = measure(rt, source);
-    if measured.lost {
-        // no byte may be read from another place, so that the next read must fail, which is told
-        source.opened = Opened::Nothing;
-    }
-    Progress::of(0 < measured.left, measured.left)
-}
 
-// How many bytes the input still has, 0 where that is not known, and whether the place in it was lost.
-#[derive(Clone, Copy)]
-struct Measured {
-    left: u64,
-    lost: bool,
-}
-
-fn measure(rt: &HostRuntime, source: &Source) -> Measured {
-    let unknown = Measured {
-        left: 0,
-        lost: false,
-    };
-    match &source.opened {
-        Opened::Standard => left_of_standard(rt).unwrap_or(unknown),
-        Opened::File(file) => left_of_file(file).unwrap_or(unknown),
-        Opened::Nothing => unknown,
+    // How many bytes the input still has, 0 where that is not known, or none where the place in it was lost. Standard input is not sought.
+    fn left(&self) -> Option<u64>
+        ensures { IfNone result (is_standard self.now.opened ≡ false) }
+    {
+        match &self.opened {
+            Opened::Standard => Some(self.system.left_of_standard().unwrap_or(0)),
+            Opened::File(file) => left_of_file(file).unwrap_or(Some(0)),
+            Opened::Lost => Some(0),
+        }
     }
 }
 
 // The place in a file is sought at its end and then where it was.
-fn left_of_file(file: &File) -> io::Result<Measured> {
+fn left_of_file(file: &File) -> io::Result<Option<u64>> {
     let mut file = file;
     let from = file.seek(SeekFrom::Current(0))?;
     let end = file.seek(SeekFrom::End(0));
     let back = file.seek(SeekFrom::Start(from));
-    Ok(Measured {
-        left: end.unwrap_or(0).saturating_sub(from),
-        lost: back.ok() != Some(from),
-    })
+    if back.ok() == Some(from) {
+        Ok(Some(end.unwrap_or(0).saturating_sub(from)))
+    } else {
+        Ok(None)
+    }
 }
 
-// Where standard input is a file, the system says in files of its own how long it is and which place it is at.
-fn left_of_standard(rt: &HostRuntime) -> io::Result<Measured> {
-    let metadata = rt.metadata("/proc/self/fd/0")?;
-    let mut file = rt.open_file(OpenOptions::new().read(true), "/proc/self/fdinfo/0")?;
-    let mut text = [0u8; 64];
-    let n = file.read(&mut text)?;
-    let from = place_in(&text[..n]).unwrap_or(u64::MAX);
-    Ok(Measured {
-        left: metadata.len().saturating_sub(from),
-        lost: false,
-    })
+impl System<'_> {
+    // Where standard input is a file, the system says in files of its own how long it is and which place it is at.
+    fn left_of_standard(self) -> io::Result<u64> {
+        let metadata = self.rt.metadata("/proc/self/fd/0")?;
+        let mut file = self.rt.open_file(OpenOptions::new().read(true), "/proc/self/fdinfo/0")?;
+        let mut text = [0u8; 64];
+        let n = file.read(&mut text)?;
+        let from = place_in(&text[..n]).unwrap_or(u64::MAX);
+        Ok(metadata.len().saturating_sub(from))
+    }
+
+    // After a read of so many bytes.
+    pub fn went_on(self, progress: Progress, count: usize) -> Progress {
+        let next = progress.advanced(count as u64);
+        if next.is_due() {
+            self.show(next);
+        }
+        next
+    }
+
+    // The last line, and its end, where something was read.
+    pub fn end_progress(self, progress: Progress) {
+        if progress.shown && progress.done > 0 {
+            self.show(progress);
+            self.say(b"\n");
+        }
+    }
+
+    // A line that cannot be written is no loss: the work goes on.
+    fn show(self, progress: Progress) {
+        let mut line = [0u8; 64];
+        let n = progress.put_line(&mut line, 0);
+        self.say(&line[..n]);
+    }
 }
 
 // The number in a first line `pos: N`.
@@ -77,31 +93,4 @@ fn place_in(text: &[u8]) -> Option<u64> {
     let words = std::str::from_utf8(text).ok()?;
     let (line, _) = words.split_once('\n')?;
     line.strip_prefix("pos:")?.trim().parse::<u64>().ok()
-}
-
-// After a read of so many bytes.
-pub fn went_on(rt: &HostRuntime, progress: Progress, count: usize) -> Progress {
-    let next = progress.advanced(count as u64);
-    if next.is_due() {
-        show(rt, next);
-    }
-    next
-}
-
-// The last line, and its end, where something was read.
-pub fn end_progress(rt: &HostRuntime, progress: Progress) {
-    if !progress.shown {
-        return;
-    }
-    if progress.done > 0 {
-        show(rt, progress);
-        say(rt, b"\n");
-    }
-}
-
-// A line that cannot be written is no loss: the work goes on.
-fn show(rt: &HostRuntime, progress: Progress) {
-    let mut line = [0u8; 64];
-    let n = progress.put_line(&mut line, 0);
-    say(rt, &line[..n]);
 }

@@ -1,41 +1,27 @@
 // A call that failed, told on error output.
 ghost use Rattle.std.specs.Prelude.{◌≤◌};
 
-use outcomes::Moved;
-use program::{Doing, Program};
+use crate::system::System;
+use program::Doing;
 use std::io::{Error, ErrorKind, Write};
 
-// What a read or a write came to, and the system's reason where it failed.
-#[derive(Clone, Copy)]
-pub struct Tried {
-    pub moved: Moved,
-    pub reason: Option<Error>,
-}
+impl System<'_> {
+    // A line: the program, what it was doing, and the system's reason.
+    pub(crate) fn tell(self, doing: Doing, name: &[u8], reason: &Error) {
+        let mut line = [0u8; 4224];
+        let n = program::put_doing(self.program, doing, name, &mut line, 0);
+        let mut text = [0u8; 128];
+        let k = put_reason(reason, &mut text);
+        self.say(&line[..n]);
+        self.say(b": ");
+        self.say(without_number(&text[..k]));
+        self.say(b"\n");
+    }
 
-// Tells of a read or a write that failed. The system has no reason for a write that took nothing.
-pub fn tell_tried(rt: &HostRuntime, program: Program, doing: Doing, name: &[u8], tried: Tried) {
-    let reason = match tried.reason {
-        Some(reason) => reason,
-        None => Error::from(ErrorKind::WriteZero),
-    };
-    tell(rt, program, doing, name, &reason);
-}
-
-// A line: the program, what it was doing, and the system's reason.
-pub fn tell(rt: &HostRuntime, program: Program, doing: Doing, name: &[u8], reason: &Error) {
-    let mut line = [0u8; 4224];
-    let n = program::put_doing(program, doing, name, &mut line, 0);
-    let mut text = [0u8; 128];
-    let k = put_reason(reason, &mut text);
-    say(rt, &line[..n]);
-    say(rt, b": ");
-    say(rt, without_number(&text[..k]));
-    say(rt, b"\n");
-}
-
-// Where error output cannot be written, nothing can be told.
-pub fn say(rt: &HostRuntime, bytes: &[u8]) {
-    let _ = Print::write_all(&rt.stderr(), bytes);
+    // Where error output cannot be written, nothing can be told.
+    pub(crate) fn say(self, bytes: &[u8]) {
+        let _ = Print::write_all(&self.rt.stderr(), bytes);
+    }
 }
 
 // Puts the text of an error, and answers how many bytes it has.

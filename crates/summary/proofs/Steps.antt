@@ -3,8 +3,7 @@ use Prim.Native.Nat.{ℕ, ◌<◌}
 use mathlib.Core.List.{List, [], ◌∷◌}
 use native.Mathlib.Omega.{arith}
 use Rattle.wire.specs.Steps.{steps}
-use Rattle.wire.specs.declared.verdicts.Verdict.{Verdict}
-use Rattle.wire.specs.declared.verdicts.Verdict.TheVariants.{Accepted, Refused}
+use Rattle.wire.specs.Verdicts.{Verdict, Accepted, Refused}
 use Rattle.telegram.specs.Telegrams.{read_of}
 use Rattle.telegram.specs.declared.Telegram.{Telegram}
 use Rattle.hand.specs.Sets.{begun, joined}

@@ -14,7 +14,7 @@ use Rattle.kit.proofs.Loops.{scan-none}
 use Rattle.condition.specs.Slots.{slot_rows, slot_in, coding, coded_of, HeldBody}
 use Rattle.condition.specs.declared.slots.Body.{Body}
 use Rattle.condition.specs.declared.slots.Body.TheVariants.{Empty, Area, Traction, Current}
-use Rattle.wire.specs.declared.verdicts.Verdict.TheVariants.{Accepted}
+use Rattle.wire.specs.Verdicts.{Accepted}
 use Rattle.condition.proofs.Coding.{coded-silent, slot_in-back}
 use Rattle.telegram.specs.Telegrams.{place_start, coded_at, taken_before, taken_row, place_rows, read_rows, slot_at, telegram_of, read_of, bytes_of}
 use Rattle.telegram.specs.Sendable.{slot_on, Sendable}

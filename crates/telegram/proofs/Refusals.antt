@@ -10,7 +10,7 @@ use borrow.Author.Tests.{eqb-true, eqb-false, eq-eqb, leb-true, le-leb, not-fals
 use Rattle.kit.specs.Ladder.{Decides, NoneHolds}
 use Rattle.kit.proofs.Cases.{on, and_both}
 use Rattle.wire.proofs.Answers.{accepted_or_refused, refused_when, accepted_when}
-use Rattle.wire.specs.declared.verdicts.Verdict.TheVariants.{Accepted, Refused}
+use Rattle.wire.specs.Verdicts.{Accepted, Refused}
 use Rattle.telegram.specs.Telegrams.{read_rows, read_of, bytes_of, write_rows, write_refusal, write_verdict, written}
 use Rattle.telegram.specs.declared.Telegram.{Telegram}
 use Rattle.telegram.proofs.Rows.{read-numbered, write-numbered, write-refused, write-accepted}

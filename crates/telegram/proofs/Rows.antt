@@ -1,19 +1,26 @@
 -- The ladders of a telegram, as the code climbs them.
 use Prim.Native.Nat.{ℕ, ◌≤◌}
+use Rattle.std.proofs.Common.{ap₂, ◌⊎◌, inl, inr, true, false, ltb}
 use mathlib.Core.Path.{◌≡◌, refl, sym, ◌∙◌, subst}
 use mathlib.Core.List.{List}
 use lib.ListN.{length}
 use native.Mathlib.Omega.{arith}
 use borrow.Author.Tests.{eqb-true, eq-eqb, ne_eqb, not-false}
 use Rattle.kit.specs.Each.{each}
-use Rattle.kit.specs.Ladder.{ladder, above, Numbers, Numbered}
-use Rattle.kit.proofs.Ladder.{above_append, numbered_append, numbered-each, passed-exactly}
-use Rattle.condition.specs.Slots.{slot_rows}
+use Rattle.kit.specs.Ladder.{ladder, above, Decides, NoneHolds, Numbers, Numbered}
+use Rattle.kit.proofs.Ladder.{climb, ladder-silent, decides_such, above_append, numbered_append, numbered-each, passed-exactly}
+use Rattle.condition.specs.Slots.{slot_rows, slot_refusal}
 use Rattle.condition.specs.declared.slots.Coded.{Coded}
 use Rattle.condition.proofs.Coding.{slot-numbered}
-use Rattle.wire.specs.declared.verdicts.Verdict.TheVariants.{Accepted, Refused}
+use Rattle.std.specs.Prelude.{Result}
+use Rattle.std.specs.Result.{IsErrAnd}
+use Rattle.std.proofs.lemmas.Result.{err_from_is_err_and}
+use Rattle.wire.specs.Verdicts.{Accepted, Refused, row_number, verdict_in}
+use Rattle.wire.specs.declared.refusals.Refusal.{Refusal}
 use Rattle.wire.proofs.Answers.{verdict-accepted, verdict-refused}
-use Rattle.telegram.specs.Telegrams.{coded_at, taken_row, place_rows, read_rows, telegram_of, blank_telegram, read_of, bytes_of, write_rows, write_verdict, written}
+use Rattle.wire.proofs.Results.{number_nonzero}
+use Rattle.kit.proofs.Cases.{on, above_zero, at_zero}
+use Rattle.telegram.specs.Telegrams.{coded_at, taken_before, taken_row, place_rows, read_rows, telegram_of, blank_telegram, read_of, reading_in, bytes_of, write_rows, write_verdict, written}
 use Rattle.telegram.specs.declared.Telegram.{Telegram}
 
 -- every answer of these ladders is a number of document 01, and so not 0
@@ -29,8 +36,26 @@ pub read-to_14 : (bytes : List ℕ) → Numbers (λ number. number ≤ 14) (read
 unfolding read_rows each slot_rows
 read-to_14 bytes = omega arith
 
+-- and so are those of the rows of document 01's table
+pub read-most : (bytes : List ℕ) → ladder 0 (read_rows bytes) ≤ 17
+read-most bytes = by_climb (climb 0 (read_rows bytes))
+  where
+    by_climb : Decides (read_rows bytes) (ladder 0 (read_rows bytes)) ⊎ NoneHolds (read_rows bytes) → ladder 0 (read_rows bytes) ≤ 17
+    by_climb (inl d) = let m : ladder 0 (read_rows bytes) ≤ 14 = decides_such (λ number. number ≤ 14) (read_rows bytes) _ (read-to_14 bytes) d in omega arith
+    by_climb (inr s) = let z : ladder 0 (read_rows bytes) ≡ 0 = ladder-silent 0 (read_rows bytes) s in omega arith
+
 pub write-numbered : (packet room : ℕ) → Numbered (write_rows packet room)
 write-numbered packet room = omega arith
+
+pub write-most : (packet room : ℕ) → ladder 0 (write_rows packet room) ≤ 17
+write-most packet room = by_climb (climb 0 (write_rows packet room))
+  where
+    numbers : Numbers (λ number. number ≤ 10) (write_rows packet room)
+    numbers = omega arith
+
+    by_climb : Decides (write_rows packet room) (ladder 0 (write_rows packet room)) ⊎ NoneHolds (write_rows packet room) → ladder 0 (write_rows packet room) ≤ 17
+    by_climb (inl d) = let m : ladder 0 (write_rows packet room) ≤ 10 = decides_such (λ number. number ≤ 10) (write_rows packet room) _ numbers d in omega arith
+    by_climb (inr s) = let z : ladder 0 (write_rows packet room) ≡ 0 = ladder-silent 0 (write_rows packet room) s in omega arith
 
 -- a place's rows: those of the slot by itself, above the one that looks at earlier slots
 pub place-above : (bytes : List ℕ) (k : ℕ) (coded : Coded) → coded ≡ coded_at bytes k
@@ -38,6 +63,24 @@ pub place-above : (bytes : List ℕ) (k : ℕ) (coded : Coded) → coded ≡ cod
 place-above bytes k coded same =
     subst (λ c. ladder 0 (place_rows bytes k) ≡ above (ladder 0 (slot_rows c)) (ladder 0 (taken_row bytes k c.number))) (sym same)
     (above_append (slot_rows (coded_at bytes k)) (taken_row bytes k (coded_at bytes k).number) (slot-numbered (coded_at bytes k)))
+
+-- a place's answer: its slot's where that has one, else 14 where its number stands in an earlier place, and else none
+module _ (bytes : List ℕ) (k : ℕ) (coded : Coded) (same : coded ≡ coded_at bytes k) where
+  place_both : (own taken : ℕ) → own ≡ slot_refusal coded → taken ≡ ladder 0 (taken_row bytes k coded.number) → above own taken ≡ ladder 0 (place_rows bytes k)
+  place_both own taken first second = ap₂ above first second ∙ sym (place-above bytes k coded same)
+
+  pub place_own : (own : ℕ) → own ≡ slot_refusal coded → 1 ≤ own → own ≡ ladder 0 (place_rows bytes k)
+  unfolding above
+  place_own own first p = sym (simp (ne_eqb own 0 (λ z. omega arith))) ∙ place_both own _ first refl
+
+  pub place_taken : 0 ≡ slot_refusal coded → (coded.number ≡ 0 → ⊥) → taken_before bytes k coded.number ≡ true → 14 ≡ ladder 0 (place_rows bytes k)
+  unfolding ladder above
+  place_taken first n t = place_both 0 14 first (simp (above_zero _ n, t))
+
+  pub place_clear : 0 ≡ slot_refusal coded → (coded.number ≡ 0) ⊎ (taken_before bytes k coded.number ≡ false) → 0 ≡ ladder 0 (place_rows bytes k)
+  unfolding ladder above
+  place_clear first (inl n) = place_both 0 0 first (simp (at_zero _ n))
+  place_clear first (inr f) = place_both 0 0 first (on (ltb 0 coded.number) (λ e. rw (e, f) refl) (λ e. rw e refl))
 
 -- the two ways of a reading: refused, with the blank telegram beside it, or accepted
 module _ (bytes : List ℕ) (number : ℕ) (same : number ≡ ladder 0 (read_rows bytes)) where
@@ -53,6 +96,13 @@ module _ (bytes : List ℕ) (number : ℕ) (same : number ≡ ladder 0 (read_row
   unfolding read_rows
   read_length e = eqb-true (length bytes) 26 (not-false _ ((passed-exactly (read_rows bytes) (read-numbered bytes)).0 (sym same ∙ e)).0)
 
+-- what a `?` of a reading hands on
+pub exit_reading : (answer : Result Telegram Refusal) (refusal : Refusal) (bytes : List ℕ) → IsErrAnd answer (λ (own : Refusal). own ≡ refusal)
+    → row_number refusal ≡ ladder 0 (read_rows bytes) → reading_in answer ≡ read_of bytes
+exit_reading answer refusal bytes p same =
+    let q = err_from_is_err_and answer p in
+    rw (q.1, q.2) (sym (read_refused bytes (row_number refusal) same (number_nonzero refusal _ refl)))
+
 -- the two ways of a writing: refused, with the buffer as it was, or accepted, with all 26 bytes written
 module _ (t : Telegram) (buffer : List ℕ) (number : ℕ) (same : number ≡ ladder 0 (write_rows t.packet (length buffer))) where
   pub write-refused : (number ≡ 0 → ⊥) → (write_verdict t buffer ≡ Refused number) × (written t buffer ≡ buffer)
@@ -67,3 +117,11 @@ module _ (t : Telegram) (buffer : List ℕ) (number : ℕ) (same : number ≡ la
   write-length e =
       eqb-true (length buffer) 26
       (not-false _ ((passed-exactly (write_rows t.packet (length buffer)) (write-numbered t.packet (length buffer))).0 (sym same ∙ e)).1.0)
+
+-- what a `?` of a writing hands on, with the buffer as it was
+pub exit_writing : (answer : Result Unit Refusal) (refusal : Refusal) (t : Telegram) (buffer : List ℕ) → IsErrAnd answer (λ (own : Refusal). own ≡ refusal)
+    → row_number refusal ≡ ladder 0 (write_rows t.packet (length buffer)) → (verdict_in answer ≡ write_verdict t buffer) × (buffer ≡ written t buffer)
+exit_writing answer refusal t buffer p same =
+    let q = err_from_is_err_and answer p in
+    let w = write-refused t buffer (row_number refusal) same (number_nonzero refusal _ refl) in
+    (rw (q.1, q.2) (sym w.0), sym w.1)

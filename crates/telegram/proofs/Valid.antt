@@ -10,7 +10,7 @@ use borrow.Author.Tests.{eqb-true, eqb-false, ltb-false, lt-ltb, not-false}
 use Rattle.kit.specs.Bytes.{Bytes}
 use Rattle.kit.specs.Ladder.{ladder, NoneHolds}
 use Rattle.kit.proofs.Cases.{on, and_second}
-use Rattle.wire.specs.declared.verdicts.Verdict.TheVariants.{Accepted}
+use Rattle.wire.specs.Verdicts.{Accepted}
 use Rattle.telegram.proofs.Refusals.{reading_accepted}
 use Rattle.kit.proofs.Ladder.{ladder-silent, passed-exactly, silent_append, silent-each}
 use Rattle.kit.proofs.Loops.{any_none}

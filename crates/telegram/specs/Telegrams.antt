@@ -1,16 +1,15 @@
 -- Telegrams: document 01, "Telegrams", and its rows 9 to 14 and 6.
-use Rattle.std.specs.Prelude.{ℕ, ◌+◌, ◌*◌, ◌/◌, ◌%◌, Bool, cond, not, ◌&&◌, List, [], ◌∷◌, ◌++◌, eqb, ltb, leb, length, get_or}
+use Rattle.std.specs.Prelude.{ℕ, ◌+◌, ◌*◌, ◌/◌, ◌%◌, Bool, cond, not, ◌&&◌, List, [], ◌∷◌, ◌++◌, eqb, ltb, leb, length, get_or, Result, Ok, Err}
 use Rattle.kit.specs.Bytes.{word_of_two, word_bytes}
 use Rattle.kit.specs.Each.{each}
 use Rattle.kit.specs.Ladder.{ladder}
 use Rattle.kit.specs.Loops.{any}
 use Rattle.condition.specs.Slots.{empty_slot, slot_rows, slot_in, coded_of, six_of}
 use Rattle.wire.specs.Steps.{steps}
-use Rattle.wire.specs.Verdicts.{verdict_of}
+use Rattle.wire.specs.Verdicts.{Verdict, Accepted, Refused, row_number, verdict_of}
+use Rattle.wire.specs.declared.refusals.Refusal.{Refusal}
 use Rattle.condition.specs.declared.slots.Coded.{Coded}
 use Rattle.condition.specs.declared.slots.Slot.{Slot}
-use Rattle.wire.specs.declared.verdicts.Verdict.{Verdict}
-use Rattle.telegram.specs.declared.Reading.{Reading}
 use Rattle.telegram.specs.declared.Telegram.{Telegram}
 
 -- ---- the layout
@@ -82,6 +81,11 @@ telegram_of bytes =
       slots = slot_at bytes 0 ∷ slot_at bytes 1 ∷ slot_at bytes 2 ∷ slot_at bytes 3 ∷ [];
     }
 
+-- M-1b, M-2b: what reading comes to: a verdict, and the telegram
+pub record Reading : Type 0 where
+  pub verdict : Verdict
+  pub telegram : Telegram
+
 -- C-02: what stands beside a refusal
 abbrev pub blank_telegram : Telegram
 blank_telegram = record { packet = 0; step = 0; slots = empty_slot ∷ empty_slot ∷ empty_slot ∷ empty_slot ∷ [] }
@@ -89,6 +93,11 @@ blank_telegram = record { packet = 0; step = 0; slots = empty_slot ∷ empty_slo
 -- M-1b, M-2b: the verdict of reading, and the telegram
 unfoldable pub read_of : List ℕ → Reading
 read_of bytes = record { verdict = verdict_of (read_refusal bytes); telegram = cond (eqb (read_refusal bytes) 0) (telegram_of bytes) blank_telegram }
+
+-- C-12: what the code's answer says
+abbrev pub reading_in : Result Telegram Refusal → Reading
+reading_in (Ok telegram) = record { verdict = Accepted; telegram = telegram }
+reading_in (Err refusal) = record { verdict = Refused (row_number refusal); telegram = blank_telegram }
 
 -- ---- writing
 

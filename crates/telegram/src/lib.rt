@@ -6,8 +6,7 @@
 ghost use Rattle.std.specs.Prelude.{◌≡◌};
 ghost use Rattle.telegram.specs.Tables.{table_slot, first_slot, four_of};
 
-use condition::{SLOTS, Slot};
-use wire::Verdict;
+use condition::Slot;
 
 // How many bytes a telegram has, and the packets that carry a table.
 pub const LENGTH: usize = 26;
@@ -23,21 +22,11 @@ pub struct Telegram {
     pub slots: [Slot; 4],
 }
 
-// Beside a refusal stands the blank telegram: packet 0, step 0 and four empty slots.
-#[derive(Clone, Copy)]
-pub struct Reading {
-    pub verdict: Verdict,
-    pub telegram: Telegram,
-}
-
 // Slot i of a table, and past its end an empty one.
 pub fn slot_in(table: [Slot; 20], i: usize) -> Slot
     ensures { result ≡ table_slot table i }
 {
-    if i < SLOTS {
-        return table[i];
-    }
-    Slot::empty()
+    table.get(i).copied().unwrap_or(Slot::empty())
 }
 
 // The first of the slots that a packet carries. Packets 0 to 2 are taken as packet 3, and those above 7 lie past the table: the
@@ -45,13 +34,11 @@ pub fn slot_in(table: [Slot; 20], i: usize) -> Slot
 pub fn first_slot(packet: u8) -> usize
     ensures { result ≡ first_slot packet }
 {
-    if packet < FIRST_PACKET {
-        return 0;
-    }
-    4 * ((packet - FIRST_PACKET) as usize)
+    4 * packet.saturating_sub(FIRST_PACKET) as usize
 }
 
 // Packet p carries slots 4(p-3) to 4(p-3)+3; past the table's end they are empty.
+#[tactic(auto, unfolding(crate::specs::Tables::four_of))]
 pub fn four_of(table: [Slot; 20], packet: u8) -> [Slot; 4]
     ensures { result ≡ four_of table packet }
 {

@@ -1,88 +1,88 @@
 // Reading a telegram of any bytes and any length: its refusal (10, 11, then the first bad slot with 12, 13, 6, 14), or what it means.
 #![tactic(auto)]
 
-ghost use Rattle.std.specs.Prelude.{◌≡◌, ◌<◌, ◌≤◌, length};
+ghost use Rattle.std.specs.Prelude.{◌≡◌, ◌<◌, ◌≤◌};
 ghost use Rattle.kit.specs.Ladder.{ladder};
+ghost use Rattle.wire.specs.Verdicts.{number_in};
 ghost use Rattle.telegram_reader.specs.Places.{place_slot};
-ghost use Rattle.telegram.specs.Telegrams.{coded_at, slot_at, taken_before, place_rows, read_refusal, telegram_of, read_of};
+ghost use Rattle.telegram.specs.Telegrams.{coded_at, slot_at, taken_before, place_rows, read_refusal, telegram_of, read_of, reading_in};
 
 use condition::{Coded, Slot};
-use telegram::{FIRST_PACKET, LENGTH, Reading, Telegram};
-use wire::{STEPS, Verdict};
+use telegram::{FIRST_PACKET, LENGTH, Telegram};
+use wire::{Refusal, STEPS};
 
 // The six bytes of place k, 0 to 3.
-fn coded_at(bytes: &[u8], k: usize) -> Coded
-    requires { (length bytes.now ≡ 26) × (k < 4) }
-    ensures { result ≡ coded_at bytes.now k }
+#[tactic(auto, unfolding(telegram::specs::Telegrams::coded_at))]
+fn coded_at(telegram: &[u8; 26], k: usize) -> Coded
+    requires { k < 4 }
+    ensures { result ≡ coded_at telegram.now k }
 {
     let at = 2 + 6 * k;
     Coded {
-        number: bytes[at],
-        kind: bytes[at + 1],
-        first: wire::word(bytes[at + 2], bytes[at + 3]),
-        second: wire::word(bytes[at + 4], bytes[at + 5]),
+        number: telegram[at],
+        kind: telegram[at + 1],
+        first: wire::word(telegram[at + 2], telegram[at + 3]),
+        second: wire::word(telegram[at + 4], telegram[at + 5]),
     }
 }
 
 // Whether a number stands in a place below k.
-fn taken_before(bytes: &[u8], k: usize, number: u8) -> bool
-    requires { (length bytes.now ≡ 26) × (k ≤ 4) }
-    ensures { result ≡ taken_before bytes.now k number }
+fn taken_before(telegram: &[u8; 26], k: usize, number: u8) -> bool
+    requires { k ≤ 4 }
+    ensures { result ≡ taken_before telegram.now k number }
 {
-    let mut j = 0;
-    while j < k {
-        if bytes[2 + 6 * j] == number {
+    for j in 0..k {
+        if telegram[2 + 6 * j] == number {
             return true;
         }
-        j += 1;
     }
     false
 }
 
-// The refusal of place k, or 0: its own rows, and below them 14 where its number stands in an earlier place.
-fn place_refusal(bytes: &[u8], k: usize) -> u8
-    requires { (length bytes.now ≡ 26) × (k < 4) }
-    ensures { result ≡ ladder 0 (place_rows bytes.now k) }
+// The refusal of place k: its own rows, and below them 14 where its number stands in an earlier place.
+#[tactic(auto, unfolding(kit::specs::Ladder::ladder))]
+fn place_refusal(telegram: &[u8; 26], k: usize) -> Result<(), Refusal>
+    requires { k < 4 }
+    ensures { number_in result ≡ ladder 0 (place_rows telegram.now k) }
 {
-    let coded = coded_at(bytes, k);
-    let own = condition::refusal_of(coded);
-    let number = coded.number;
-    if number == 0 {
-        return own;
+    let coded = coded_at(telegram, k);
+    condition::refusal_of(coded)?;
+    if coded.number != 0 && taken_before(telegram, k, coded.number) {
+        return Err(Refusal::NumberTwice);
     }
-    if taken_before(bytes, k, number) {
-        return wire::above(own, 14);
-    }
-    own
+    Ok(())
 }
 
-// The refusal of a telegram, or 0: its length, its packet, and then the first bad place.
-pub fn refusal_of(bytes: &[u8]) -> u8
-    ensures { result ≡ read_refusal bytes.now }
+// The refusal of 26 bytes: their packet, and then the first bad place.
+fn refusal_within(telegram: &[u8; 26]) -> Result<(), Refusal>
+    ensures { number_in result ≡ read_refusal telegram.now }
 {
-    if bytes.len() != LENGTH {
-        return 10;
+    if wire::word_at(telegram, 0) / STEPS < FIRST_PACKET as u16 {
+        return Err(Refusal::NoTablePacket);
     }
-    if wire::word_at(bytes, 0) / STEPS < FIRST_PACKET as u16 {
-        return 11;
+    for k in 0..4 {
+        place_refusal(telegram, k)?;
     }
-    let mut k = 0;
-    while k < 4 {
-        let refusal = place_refusal(bytes, k);
-        if refusal != 0 {
-            return refusal;
-        }
-        k += 1;
+    Ok(())
+}
+
+// The refusal of a telegram: its length comes first.
+#[tactic(auto, unfolding(kit::specs::Ladder::ladder, telegram::specs::Telegrams::read_rows))]
+pub fn refusal_of(bytes: &[u8]) -> Result<(), Refusal>
+    ensures { number_in result ≡ read_refusal bytes.now }
+{
+    match bytes.as_array::<26>() {
+        Some(telegram) => refusal_within(telegram),
+        None => Err(Refusal::Length),
     }
-    0
 }
 
 // The slot of place k.
-fn slot_at(bytes: &[u8], k: usize) -> Slot
-    requires { (length bytes.now ≡ 26) × (k < 4) }
-    ensures { result ≡ slot_at bytes.now k }
+fn slot_at(telegram: &[u8; 26], k: usize) -> Slot
+    requires { k < 4 }
+    ensures { result ≡ slot_at telegram.now k }
 {
-    let coded = coded_at(bytes, k);
+    let coded = coded_at(telegram, k);
     Slot {
         number: coded.number,
         body: condition::body_of(coded.kind, coded.first, coded.second),
@@ -90,56 +90,48 @@ fn slot_at(bytes: &[u8], k: usize) -> Slot
 }
 
 // The slot of place k of a telegram; of bytes that are not 26 or a place that is not 0 to 3, an empty one.
+#[tactic(auto, unfolding(crate::specs::Places::place_slot))]
 pub fn place_slot(bytes: &[u8], k: usize) -> Slot
     ensures { result ≡ place_slot bytes.now k }
 {
-    if bytes.len() != LENGTH {
-        return Slot::empty();
+    match bytes.as_array::<26>() {
+        Some(telegram) if k < 4 => slot_at(telegram, k),
+        _ => Slot::empty(),
     }
-    if k < 4 {
-        return slot_at(bytes, k);
-    }
-    Slot::empty()
 }
 
-// What 26 bytes mean: in the first two the packet number has the top three bits and the step number the low thirteen.
-fn telegram_of(bytes: &[u8]) -> Telegram
-    requires { length bytes.now ≡ 26 }
-    ensures { result ≡ telegram_of bytes.now }
+// What a telegram means: in the first two bytes the packet number has the top three bits and the step number the low thirteen.
+#[tactic(auto, unfolding(telegram::specs::Telegrams::telegram_of))]
+fn telegram_of(telegram: &[u8; 26]) -> Telegram
+    ensures { result ≡ telegram_of telegram.now }
 {
-    let head = wire::word_at(bytes, 0);
-    let slots = [
-        slot_at(bytes, 0),
-        slot_at(bytes, 1),
-        slot_at(bytes, 2),
-        slot_at(bytes, 3),
-    ];
+    let head = wire::word_at(telegram, 0);
     Telegram {
         packet: (head / STEPS) as u8,
         step: head % STEPS,
-        slots,
+        slots: [
+            slot_at(telegram, 0),
+            slot_at(telegram, 1),
+            slot_at(telegram, 2),
+            slot_at(telegram, 3),
+        ],
     }
 }
 
-// What a telegram of any bytes and any length means, or its refusal.
-pub fn read(bytes: &[u8]) -> Reading
-    ensures { result ≡ read_of bytes.now }
+// What 26 bytes mean, or their refusal.
+fn read_within(telegram: &[u8; 26]) -> Result<Telegram, Refusal>
+    ensures { reading_in result ≡ read_of telegram.now }
 {
-    let none = Slot::empty();
-    let refusal = refusal_of(bytes);
-    if refusal != 0 {
-        return Reading {
-            verdict: Verdict::Refused(refusal),
-            telegram: Telegram {
-                packet: 0,
-                step: 0,
-                slots: [none; 4],
-            },
-        };
-    }
-    let telegram = telegram_of(bytes);
-    Reading {
-        verdict: Verdict::Accepted,
-        telegram,
+    refusal_within(telegram)?;
+    Ok(telegram_of(telegram))
+}
+
+// What a telegram of any bytes and any length means, or its refusal.
+pub fn read(bytes: &[u8]) -> Result<Telegram, Refusal>
+    ensures { reading_in result ≡ read_of bytes.now }
+{
+    match bytes.as_array::<26>() {
+        Some(telegram) => read_within(telegram),
+        None => Err(Refusal::Length),
     }
 }

@@ -1,15 +1,16 @@
 // Writing a telegram into a buffer of any length: refused 9, then 10, with no byte changed, or all 26 bytes.
 #![tactic(auto)]
 
-ghost use Rattle.std.specs.Prelude.{◌≡◌, not, ◌&&◌, leb, [], ◌∷◌, ◌+◌, ◌<◌, ◌≤◌, length};
+ghost use Rattle.std.specs.Prelude.{◌≡◌, [], ◌∷◌, ◌+◌, ◌<◌, ◌≤◌, length};
 ghost use Rattle.kit.specs.Bytes.{word_bytes};
 ghost use Rattle.kit.specs.Put.{Put};
+ghost use Rattle.wire.specs.Verdicts.{number_in, verdict_in};
 ghost use Rattle.condition.specs.Slots.{coded_of, six_of};
 ghost use Rattle.telegram.specs.Telegrams.{bytes_of, write_refusal, write_verdict, written};
 
 use condition::Slot;
 use telegram::{FIRST_PACKET, LAST_PACKET, LENGTH, Telegram};
-use wire::{STEPS, Verdict};
+use wire::{Refusal, STEPS};
 
 fn put_byte(buffer: &mut [u8], at: usize, byte: u8) -> usize
     requires { at < length buffer.old }
@@ -23,8 +24,9 @@ fn put_word(buffer: &mut [u8], at: usize, word: u16) -> usize
     requires { at + 2 ≤ length buffer.old }
     ensures { Put buffer.old at (word_bytes word) buffer.new result }
 {
-    let next = put_byte(buffer, at, (word / 256) as u8);
-    put_byte(buffer, next, (word % 256) as u8)
+    let [high, low] = word.to_be_bytes();
+    let next = put_byte(buffer, at, high);
+    put_byte(buffer, next, low)
 }
 
 fn put_slot(buffer: &mut [u8], at: usize, slot: Slot) -> usize
@@ -43,52 +45,32 @@ fn put_telegram(buffer: &mut [u8], telegram: Telegram)
     requires { length buffer.old ≡ 26 }
     ensures { buffer.new ≡ bytes_of telegram }
 {
-    let slots = telegram.slots;
     let head = (telegram.packet % 8) as u16 * STEPS + telegram.step % STEPS;
     let mut at = put_word(buffer, 0, head);
-    let mut k: usize = 0;
-    while k < 4 {
-        let slot = slots[k];
-        at = put_slot(buffer, at, slot);
-        k += 1;
+    for slot in &telegram.slots {
+        at = put_slot(buffer, at, *slot);
     }
 }
 
-// Whether a number is that of no packet.
-fn is_other(packet: u8) -> bool
-    ensures { result ≡ not (leb 3 packet && leb packet 7) }
+// The refusal of a packet number and a buffer's length.
+#[tactic(auto, unfolding(kit::specs::Ladder::ladder))]
+fn refusal_of(packet: u8, room: usize) -> Result<(), Refusal>
+    ensures { number_in result ≡ write_refusal packet room }
 {
-    if packet < FIRST_PACKET {
-        return true;
-    }
-    if LAST_PACKET < packet {
-        return true;
-    }
-    false
-}
-
-// The refusal of a packet number and a buffer's length, or 0.
-fn refusal_of(packet: u8, room: usize) -> u8
-    ensures { result ≡ write_refusal packet room }
-{
-    let other = is_other(packet);
-    if other {
-        return 9;
+    if !(FIRST_PACKET..=LAST_PACKET).contains(&packet) {
+        return Err(Refusal::NoSuchPacket);
     }
     if room != LENGTH {
-        return 10;
+        return Err(Refusal::Length);
     }
-    0
+    Ok(())
 }
 
 // Writes a telegram into a buffer of any length, or refuses and leaves the buffer as it is.
-pub fn write(telegram: Telegram, buffer: &mut [u8]) -> Verdict
-    ensures { (result ≡ write_verdict telegram buffer.old) × (buffer.new ≡ written telegram buffer.old) }
+pub fn write(telegram: Telegram, buffer: &mut [u8]) -> Result<(), Refusal>
+    ensures { (verdict_in result ≡ write_verdict telegram buffer.old) × (buffer.new ≡ written telegram buffer.old) }
 {
-    let refusal = refusal_of(telegram.packet, buffer.len());
-    if refusal != 0 {
-        return Verdict::Refused(refusal);
-    }
+    refusal_of(telegram.packet, buffer.len())?;
     put_telegram(buffer, telegram);
-    Verdict::Accepted
+    Ok(())
 }

@@ -1,3 +1,4 @@
 pub mod Bits
 pub mod Origins
+pub mod Rest
 pub mod Rows

@@ -39,7 +39,8 @@ pub enum Isolation {
     Invalid,
 }
 
-// The supported traction systems: a list of bits, bit 1 for system 1 to bit 31 for system 31.
+// The supported traction systems: a list of bits, bit 1 for system 1 to bit 31 for system 31. No Option: silent is a state that is shown,
+// as it is of each signal above, and not the lack of one.
 #[derive(Clone, Copy)]
 pub enum Traction {
     Silent,
@@ -49,18 +50,15 @@ pub enum Traction {
 pub fn cab_of(a: bool, b: bool) -> Cab
     ensures { result ≡ cab_of a b }
 {
-    if a {
-        if b {
-            return Cab::Invalid;
-        }
-        return Cab::A;
+    match (a, b) {
+        (false, false) => Cab::None,
+        (true, false) => Cab::A,
+        (false, true) => Cab::B,
+        (true, true) => Cab::Invalid,
     }
-    if b {
-        return Cab::B;
-    }
-    Cab::None
 }
 
+#[tactic(auto, unfolding(crate::specs::Codes::brake_of, kit::specs::Ladder::ladder))]
 pub fn brake_of(number: u8) -> Brake
     ensures { result ≡ brake_of number }
 {
@@ -77,14 +75,9 @@ pub fn brake_of(number: u8) -> Brake
 pub fn isolation_of(isolated: bool, inverse: bool) -> Isolation
     ensures { result ≡ isolation_of isolated inverse }
 {
-    if isolated {
-        if inverse {
-            return Isolation::Invalid;
-        }
-        return Isolation::Isolated;
+    match (isolated, inverse) {
+        (true, false) => Isolation::Isolated,
+        (false, true) => Isolation::NotIsolated,
+        _ => Isolation::Invalid,
     }
-    if inverse {
-        return Isolation::NotIsolated;
-    }
-    Isolation::Invalid
 }

@@ -1,17 +1,20 @@
 -- Reading: each refusal is given exactly when its row holds and no earlier one does (R-22, R-23), and what stands beside it.
-use Prim.Native.Nat.{ℕ}
+use Prim.Native.Nat.{ℕ, ◌≤◌}
+use native.Mathlib.Omega.{arith}
 use mathlib.Core.List.{List}
 use mathlib.Core.Logic.{◌↔◌}
-use mathlib.Core.Path.{◌≡◌, refl, ap}
+use mathlib.Core.Path.{◌≡◌, refl, sym, ap}
 use borrow.Author.Tests.{eq-eqb, ne_eqb}
 use Rattle.kit.specs.Ladder.{Decides, NoneHolds}
-use Rattle.wire.specs.declared.verdicts.Verdict.TheVariants.{Accepted, Refused}
+use Rattle.std.specs.Prelude.{Ok, Err}
+use Rattle.wire.specs.declared.refusals.Refusal.{Refusal}
+use Rattle.wire.specs.Verdicts.{row_number, Accepted, Refused}
 use Rattle.wire.proofs.Answers.{verdict-accepted, verdict-refused, verdict-number, refused_when, accepted_when}
+use Rattle.wire.proofs.Results.{number-positive}
 use Rattle.train_codes.specs.Refusals.{train_rows, train_refusal}
 use Rattle.train_codes.proofs.Rows.{train-numbered}
-use Rattle.train_telegram.specs.Readings.{train_reading}
+use Rattle.train_telegram.specs.Readings.{Reading, reading_in, train_reading}
 use Rattle.train_telegram.specs.States.{states_of, silent}
-use Rattle.train_telegram.specs.declared.Reading.{Reading}
 
 -- the two ways of a reading: refused, with every signal silent beside it, or accepted
 module _ (t : List ℕ) (number : ℕ) (same : number ≡ train_refusal t) where
@@ -22,6 +25,15 @@ module _ (t : List ℕ) (number : ℕ) (same : number ≡ train_refusal t) where
   pub read-accepted : number ≡ 0 → ◌≡◌ {A = Reading} (train_reading t) (record { verdict = Accepted; states = states_of t })
   unfolding train_reading
   read-accepted e = rw (← same, verdict-accepted number e, eq-eqb number 0 e) refl
+
+-- the same of the code's answer, by the number of its refusal
+pub reading_refused_by : (t : List ℕ) (refusal : Refusal) → row_number refusal ≡ train_refusal t → reading_in (Err refusal) ≡ train_reading t
+reading_refused_by t refusal same =
+    let p : 1 ≤ row_number refusal = number-positive refusal in
+    sym (read_refused t (row_number refusal) same (λ z. omega arith))
+
+pub reading_accepted_by : (t : List ℕ) → 0 ≡ train_refusal t → reading_in (Ok (states_of t)) ≡ train_reading t
+reading_accepted_by t same = sym (read-accepted t 0 same refl)
 
 module _ (t : List ℕ) where
   pub reading_refused : (number : ℕ) → ((train_reading t).verdict ≡ Refused number) ↔ Decides (train_rows t) number

@@ -7,16 +7,12 @@ use Rattle.train_codes.specs.declared.Brake.TheVariants as Brake'
 use Rattle.train_codes.specs.declared.Cab.TheVariants as Cab'
 use Rattle.train_codes.specs.declared.Isolation.{Isolation}
 use Rattle.train_codes.specs.declared.Isolation.TheVariants as Isolation'
-use Rattle.train_telegram.specs.declared.states.National.{National}
 use Rattle.train_telegram.specs.declared.states.States.{States}
 use Rattle.train_codes.specs.declared.Traction.TheVariants as Traction'
 
-abbrev pub system_with : Isolation → National
-system_with isolation = record { isolation = isolation }
-
 -- S-05, S-06: systems 1 to 16 by a word and its inverse: bit 0 is system 1
-unfoldable pub national_of : ℕ → ℕ → List National
-national_of isolated inverse = each (λ i. system_with (isolation_of (bit i isolated) (bit i inverse)) ∷ []) 0 16
+unfoldable pub national_of : ℕ → ℕ → List Isolation
+national_of isolated inverse = each (λ i. isolation_of (bit i isolated) (bit i inverse) ∷ []) 0 16
 
 -- S-03 to S-07: byte 1 has cab A in bit 1 and cab B in bit 0; byte 2 has brake position in bits 2..0; bytes 3-4 isolation, bytes 5-6 the
 -- inverse; bytes 7-10 the supported traction systems
@@ -35,6 +31,6 @@ silent =
     record {
       cab = Cab'.Silent;
       brake = Brake'.Silent;
-      national = replicate 16 (system_with Isolation'.Silent);
+      national = replicate 16 Isolation'.Silent;
       traction = Traction'.Silent;
     }

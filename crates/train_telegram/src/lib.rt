@@ -4,31 +4,16 @@
 mod states;
 
 ghost use Rattle.std.specs.Prelude.{◌≡◌};
-ghost use Rattle.train_telegram.specs.Readings.{train_reading};
+ghost use Rattle.train_telegram.specs.Readings.{reading_in, train_reading};
 
-pub use states::{National, States};
-use wire::Verdict;
-
-// The answer to a telegram, and the states that it says. Beside a refusal every signal is silent.
-#[derive(Clone, Copy)]
-pub struct Reading {
-    pub verdict: Verdict,
-    pub states: States,
-}
+pub use states::States;
+use wire::Refusal;
 
 // What a telegram of any bytes and any length says, or its refusal.
-pub fn read(telegram: &[u8]) -> Reading
-    ensures { result ≡ train_reading telegram.now }
+#[tactic(auto, using(crate::proofs::Refusals::reading_refused_by, crate::proofs::Refusals::reading_accepted_by))]
+pub fn read(telegram: &[u8]) -> Result<States, Refusal>
+    ensures { reading_in result ≡ train_reading telegram.now }
 {
-    let refusal = train_codes::refusal_of(telegram);
-    if refusal != 0 {
-        return Reading {
-            verdict: Verdict::Refused(refusal),
-            states: States::silent(),
-        };
-    }
-    Reading {
-        verdict: Verdict::Accepted,
-        states: states::states_of(telegram),
-    }
+    train_codes::refusal_of(telegram)?;
+    Ok(states::states_of(telegram))
 }

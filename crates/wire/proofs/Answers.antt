@@ -4,9 +4,7 @@ use borrow.Author.Tests.{eqb-false}
 use Rattle.kit.specs.Ladder.{ladder, Decides, NoneHolds, Numbered}
 use Rattle.kit.proofs.Cases.{on}
 use Rattle.kit.proofs.Ladder.{refused-exactly, passed-exactly, decides_positive}
-use Rattle.wire.specs.Verdicts.{Ruling, ruling_of, number_of, verdict_of}
-use Rattle.wire.specs.declared.verdicts.Verdict.{Verdict}
-use Rattle.wire.specs.declared.verdicts.Verdict.TheVariants.{Accepted, Refused}
+use Rattle.wire.specs.Verdicts.{Ruling, Verdict, Accepted, Refused, ruling_of, number_of, verdict_of}
 
 -- C-12: no two verdicts tell the same
 verdict_by : Ruling → Verdict
@@ -59,3 +57,7 @@ module _ (rows : List (Bool × ℕ)) (numbered : Numbered rows) where
 
   pub accepted_when : (verdict_of (ladder 0 rows) ≡ Accepted) ↔ NoneHolds rows
   accepted_when = (λ e. (passed-exactly rows numbered).0 (verdict-number Accepted e), λ s. verdict-accepted (ladder 0 rows) ((passed-exactly rows numbered).1 s))
+
+-- two numbers never share a verdict
+pub verdict-number-apart : (one other : ℕ) → verdict_of one ≡ verdict_of other → one ≡ other
+verdict-number-apart one other e = sym (number-verdict one) ∙ (ap number_of e ∙ number-verdict other)

@@ -1,3 +1,4 @@
 pub mod Answers
 pub mod Metres
+pub mod Results
 pub mod Round

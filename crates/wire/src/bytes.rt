@@ -6,16 +6,13 @@ ghost use Rattle.kit.specs.Bytes.{word_of_two, word_at, long_at};
 pub fn word(high: u8, low: u8) -> u16
     ensures { result ≡ word_of_two high low }
 {
-    high as u16 * 256 + low as u16
+    u16::from_be_bytes([high, low])
 }
 
 pub fn byte_at(list: &[u8], i: usize) -> u8
     ensures { result ≡ slice_index list.now i }
 {
-    if i < list.len() {
-        return list[i];
-    }
-    0
+    list.get(i).copied().unwrap_or(0)
 }
 
 pub fn word_at(list: &[u8], i: usize) -> u16

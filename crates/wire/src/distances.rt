@@ -13,6 +13,7 @@ pub enum Distance {
     Below(u16),
 }
 
+#[tactic(auto, unfolding(crate::specs::Distances::distance_of))]
 pub fn distance_of(word: u16) -> Distance
     ensures { result ≡ distance_of word }
 {

@@ -1,13 +1,13 @@
 -- `hand_over`: in each buffer, what is poured and what comes of what is left of the input make the whole, turn by turn; so does the desk so far,
 -- taken on through what is left; it stays one that was made, and no more lists are counted than bytes are taken; each turn leaves less.
-use Prim.Native.Nat.{ℕ, ◌+◌, ◌≤◌}
-use mathlib.Core.Path.{◌≡◌, sym, ap, ap₂, ◌∙◌, subst, subst⁻¹}
+use Prim.Native.Nat.{ℕ, ◌+◌}
+use mathlib.Core.Path.{◌≡◌, refl, sym, ap, ap₂, ◌∙◌, subst, subst⁻¹}
 use mathlib.Core.List.{List}
 use lib.ListN.{length, length-drop}
 use native.Mathlib.Omega.{arith}
 use borrow.Author.Rules.{rules, part_to_end}
-use Rattle.frames.specs.Frames.{no_bare}
-use Rattle.frames.proofs.Splitting.{size_bounds}
+use Rattle.frames.specs.Frames.{no_bare, whole_size}
+use Rattle.frames.proofs.Splitting.{size_some, size_none, call_bounds}
 use Rattle.frames.proofs.Pouring.{pouring_start, pouring_more, pouring_end, pouring_last, pouring_as, pouring_room}
 use Rattle.desk.specs.Desks.{Made, made_fresh, called}
 use Rattle.desk_runs.specs.Runs.{lists_of, desk_from, tables_with, refused_lines_with, run_tables, refused_lines, desk_at_end}
@@ -27,52 +27,37 @@ loop-rest-init c =
       ap (λ d. desk_from d (lists_of input)) desk,
     )
 
-pub returns-then-size-eq0 : goal.returns-then-size-eq0
-returns-then-size-eq0 c =
+pub returns-in_default : goal.returns-in_default
+returns-in_default c =
     let l = c.loop-rest in
-    let size = c.call_size-size in
-    let none = c.if-size-eq0.true in (
-      sym (left-none l.desk l.rest.now size.result size.ensures none) ∙ l.invariant.4,
-      pouring_last (pouring_as (tables-none l.desk l.lists l.rest.now size.result size.ensures none) l.invariant.2),
-      pouring_end (pouring_as (lines-short l.desk l.lists l.rest.now size.result size.ensures none (search rules)) l.invariant.3) c.put_short-past.ensures,
+    let rest : List ℕ = l.rest.now in
+    let none = size_none (whole_size no_bare rest) c.in_default.ensures in (
+      sym (left-none l.desk rest (whole_size no_bare rest) refl none) ∙ l.invariant.4,
+      pouring_last (pouring_as (tables-none l.desk l.lists rest (whole_size no_bare rest) refl none) l.invariant.2),
+      pouring_end (pouring_as (lines-short l.desk l.lists rest (whole_size no_bare rest) refl none (search rules)) l.invariant.3) c.put_short-past.ensures,
     )
-
-pub slice_bounds-take-count : goal.slice_bounds-take-count
-slice_bounds-take-count c = omega (arith, size_bounds no_bare c.loop-rest.rest.now c.call_size-size.result c.call_size-size.ensures (search rules))
-
-pub slice_bounds-take-start : goal.slice_bounds-take-start
-slice_bounds-take-start c = omega (arith, size_bounds no_bare c.loop-rest.rest.now c.call_size-size.result c.call_size-size.ensures (search rules))
-
-pub slice_bounds-take-end : goal.slice_bounds-take-end
-slice_bounds-take-end c = omega (arith, size_bounds no_bare c.loop-rest.rest.now c.call_size-size.result c.call_size-size.ensures (search rules))
 
 pub take-taken-requires : goal.take-taken-requires
 take-taken-requires c =
     let l = c.loop-rest in
     (l.invariant.0, pouring_room l.invariant.2, pouring_room l.invariant.3)
 
-pub slice_bounds-rest-count : goal.slice_bounds-rest-count
-slice_bounds-rest-count c = omega (arith, size_bounds no_bare c.loop-rest.rest.now c.call_size-size.result c.call_size-size.ensures (search rules))
-
-pub slice_bounds-rest-start : goal.slice_bounds-rest-start
-slice_bounds-rest-start c = omega (arith, size_bounds no_bare c.loop-rest.rest.now c.call_size-size.result c.call_size-size.ensures (search rules))
-
 pub loop-rest-preserved : goal.loop-rest-preserved
 loop-rest-preserved c =
     let l = c.loop-rest in
-    let size = c.call_size-size in
-    let some : 1 ≤ size.result = search rules in
+    let size : ℕ = c.in-Some.size in
     let taken = c.take-taken in
     let rest : List ℕ = l.rest.now in
-    let left = sym (part_to_end rest size.result) in
+    let known = size_some (whole_size no_bare rest) c.in-Some.ensures in
+    let left = sym (part_to_end rest size) in
     let desk = sym taken.ensures.0 in (
       subst Made desk (called l.invariant.0 _),
-      omega (arith, l.invariant.1, ap length left, length-drop size.result rest, size_bounds no_bare rest size.result size.ensures some),
+      omega (arith, l.invariant.1, ap length left, length-drop size rest, call_bounds no_bare rest c.in-Some.ensures),
       pouring_as (ap₂ tables_with desk left)
-          (pouring_more (pouring_as (tables_more l.desk l.lists rest size.result size.ensures some) l.invariant.2) taken.ensures.1),
+          (pouring_more (pouring_as (tables_more l.desk l.lists rest size known.0 known.1) l.invariant.2) taken.ensures.1),
       pouring_as (ap₂ (λ d r. refused_lines_with d (l.lists + 1) r) desk left)
-          (pouring_more (pouring_as (lines_more l.desk l.lists rest size.result size.ensures some) l.invariant.3) taken.ensures.2),
-      ap₂ (λ d r. desk_from d (lists_of r)) taken.ensures.0 (part_to_end rest size.result) ∙ (sym (left-more l.desk rest size.result size.ensures some) ∙ l.invariant.4),
+          (pouring_more (pouring_as (lines_more l.desk l.lists rest size known.0 known.1) l.invariant.3) taken.ensures.2),
+      ap₂ (λ d r. desk_from d (lists_of r)) taken.ensures.0 (part_to_end rest size) ∙ (sym (left-more l.desk rest size known.0 known.1) ∙ l.invariant.4),
     )
 
 pub returns : goal.returns

@@ -2,7 +2,7 @@
 use Prim.Native.Nat.{ℕ}
 use mathlib.Core.Path.{◌≡◌, sym, ap, ◌∙◌}
 use Rattle.kit.proofs.Put.{poured-none, poured_as}
-use Rattle.wire.specs.declared.verdicts.Verdict.{Verdict}
+use Rattle.wire.specs.Verdicts.{Verdict}
 use Rattle.desk.specs.declared.Answer.{Answer}
 use Rattle.desk_runs.specs.Runs.{table_for, line_for}
 use Rattle.desk_runs.proofs.take.Goals as goal

@@ -1,27 +1,15 @@
--- `held_in`: the loop fills the five, one byte after another.
-use Prim.Native.Nat.{◌<◌, ◌≤◌}
-use mathlib.Core.Path.{sym}
-use native.Mathlib.Omega.{arith}
-use Rattle.kit.proofs.Fill.{filled_none, filled_more, filled-all}
+-- `held_in`: a call of the closure gives the flag of its byte.
+use Prim.Native.Nat.{ℕ, ◌+◌}
+use mathlib.Core.Bool.{false}
+use lib.ListN.{get_or}
 use Rattle.telegram.specs.Tables.{packets}
-use Rattle.memory.specs.Memory.{held_from}
-use Rattle.memory.proofs.Slots.{flag_in, length_flags}
+use Rattle.memory.specs.Memory.{held_from, is_set, flags_at}
+use Rattle.memory.proofs.Made.{made_each}
 use borrow.Author.Rules.{rules}
 use Rattle.hand.proofs.held_in.Goals as goal
 
-pub loop-k-init : goal.loop-k-init
-loop-k-init c = (search rules, filled_none (sym (length_flags c.args.memory.now held_from packets)))
-
-pub loop-k-preserved : goal.loop-k-preserved
-loop-k-preserved c =
-    let l = c.loop-k in
-    let memory = c.args.memory.now in
-    let p : l.k < packets = search rules in
-    (search rules, filled_more (omega (arith, length_flags memory held_from packets)) l.invariant.1 (sym (flag_in memory held_from packets l.k p)))
-
 pub returns : goal.returns
+unfolding flags_at
 returns c =
-    let l = c.loop-k in
     let memory = c.args.memory.now in
-    let past : packets ≤ l.k = search rules in
-    filled-all (omega (arith, length_flags memory held_from packets)) l.invariant.1
+    made_each _ (λ (i : ℕ). is_set (get_or memory (held_from + i) 0)) _ (λ i y q called. search rules) _ packets false c.from_fn.ensures.items

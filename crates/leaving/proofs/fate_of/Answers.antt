@@ -1,33 +1,36 @@
 -- `fate_of`: whether the search found the order in the list, and then what stands there; an order that is not there has ended, and a free
 -- place has none that could end.
-use Prim.Native.Nat.{ℕ}
-use mathlib.Core.Bool.{true}
-use mathlib.Core.Path.{◌≡◌, sym, ◌∙◌, subst}
-use lib.Dec.{ltb}
-use borrow.Author.Tests.{eq-eqb, ne_eqb, lt-ltb, le-ltb}
-use Rattle.leaving.specs.Leaving.{kept_among, ended_entry}
-use Rattle.leaving.proofs.Left.{entry-stays}
+use mathlib.Core.Bool.{true, false}
+use mathlib.Core.Path.{◌≡◌, sym, ◌∙◌}
+use native.Mathlib.Omega.{arith}
+use borrow.Author.Tests.{eq-eqb, lt-ltb, le-ltb}
+use Rattle.order_list.proofs.Searched.{some-below, none-below}
+use Rattle.leaving.specs.Leaving.{stays_among, ended_entry}
+use Rattle.leaving.proofs.Left.{kept-stays, kept-ends, entry-stays, entry-ends}
 use Rattle.leaving.proofs.fate_of.Goals as goal
 
-pub returns-then-at-n : goal.returns-then-at-n
-unfolding kept_among ended_entry
-returns-then-at-n c =
-    let a = c.args in (
-      simp (sym c.listed-at.ensures, lt-ltb _ _ c.if-at-n.true, sym c.order_at-order.ensures, sym c.body_of.ensures),
-      c.none.ensures
-          ∙ sym (entry-stays a.list.now a.n a.place a.step (subst (λ (k : ℕ). ltb k a.n ≡ true) c.listed-at.ensures (lt-ltb _ _ c.if-at-n.true))),
+pub returns-in-Some : goal.returns-in-Some
+returns-in-Some c =
+    let a = c.args in
+    let (same, p) = some-below _ _ _ c.in-Some.ensures in
+    let stays : stays_among a.list.now a.n a.place ≡ true = lt-ltb _ _ p in (
+      rw (c.body_of.ensures, c.order_at-order.ensures, same) (sym (kept-stays a.list.now a.n a.place stays)),
+      c.none.ensures ∙ sym (entry-stays a.list.now a.n a.place a.step stays),
     )
 
 pub returns-then-place-eq0 : goal.returns-then-place-eq0
-unfolding kept_among ended_entry
-returns-then-place-eq0 c = (
-  simp (sym c.listed-at.ensures, le-ltb _ _ c.if-at-n.false, c.free.ensures),
-  simp (eq-eqb _ _ c.if-place-eq0.true, c.none-then-place-eq0.ensures),
-)
+unfolding ended_entry
+returns-then-place-eq0 c =
+    let a = c.args in
+    let ends : stays_among a.list.now a.n a.place ≡ false = le-ltb _ _ (none-below _ _ c.in_default.ensures) in (
+      c.free.ensures ∙ sym (kept-ends a.list.now a.n a.place ends),
+      simp (eq-eqb _ _ c.if-place-eq0.true, c.none-then-place-eq0.ensures),
+    )
 
 pub returns : goal.returns
-unfolding kept_among ended_entry
-returns c = (
-  simp (sym c.listed-at.ensures, le-ltb _ _ c.if-at-n.false, c.free-2.ensures),
-  simp (sym c.listed-at.ensures, le-ltb _ _ c.if-at-n.false, ne_eqb _ _ c.if-place-eq0.false),
-)
+returns c =
+    let a = c.args in
+    let ends : stays_among a.list.now a.n a.place ≡ false = le-ltb _ _ (none-below _ _ c.in_default.ensures) in (
+      c.free-2.ensures ∙ sym (kept-ends a.list.now a.n a.place ends),
+      sym (entry-ends a.list.now a.n a.place a.step (omega (arith, c.if-place-eq0.false)) ends),
+    )

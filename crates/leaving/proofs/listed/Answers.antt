@@ -3,26 +3,35 @@ use Prim.Native.Nat.{ℕ, ◌<◌, ◌≤◌}
 use mathlib.Core.List.{List}
 use mathlib.Core.Path.{◌≡◌, sym, ap, ◌∙◌}
 use native.Mathlib.Omega.{arith}
-use Rattle.order_list.specs.Lists.{listed_at, numbers_of, found_at}
+use Rattle.std.specs.Prelude.{Some, None}
+use Rattle.order_list.specs.Lists.{index_below, listed_at, numbers_of, found_at}
 use Rattle.order_list.proofs.Found.{found-listed, listed_in, listed-past}
+use Rattle.order_list.proofs.Searched.{below-some, below-none, some-below, none-below}
 use Rattle.leaving.proofs.listed.Goals as goal
 
-module _ (numbers list : List ℕ) (n o at : ℕ) (same : numbers ≡ numbers_of list) (found : at ≡ found_at numbers o) where
-  there : at ≡ listed_at list 20 o
-  there = found ∙ (ap (λ (l : List ℕ). found_at l o) same ∙ found-listed list o)
+module _ (numbers list : List ℕ) (n o : ℕ) (same : numbers ≡ numbers_of list) where
+  there : found_at numbers o ≡ listed_at list 20 o
+  there = ap (λ (l : List ℕ). found_at l o) same ∙ found-listed list o
 
-  late : n ≤ at → n ≡ listed_at list n o
-  late p = sym (listed-past list o 20 n (omega (arith, there)))
+  early : (at : ℕ) → Some at ≡ index_below 20 (found_at numbers o) → at < n → Some at ≡ index_below n (listed_at list n o)
+  early at e p =
+      let (f, q) = some-below 20 (found_at numbers o) at e in
+      let same : listed_at list n o ≡ at = listed_in list o 20 n (omega (arith, there, f, q)) (omega (arith, there, f)) ∙ sym (f ∙ there) in
+      sym (ap (index_below n) same ∙ below-some n at p)
 
-  early : at < n → at < 20 → at ≡ listed_at list n o
-  early p q = there ∙ sym (listed_in list o 20 n (omega (arith, there)) (omega (arith, there)))
+  late : n ≤ found_at numbers o → None ≡ index_below n (listed_at list n o)
+  late p = sym (below-none n (listed_at list n o) (omega (arith, listed-past list o 20 n (omega (arith, there)))))
 
-pub returns-then-n-at : goal.returns-then-n-at
-returns-then-n-at c =
+pub returns-in-Some : goal.returns-in-Some
+returns-in-Some c = let a = c.args in early a.numbers.now a.list.now a.n a.number c.requires _ c.in-Some.ensures c.if-at-n.true
+
+pub returns-in_default : goal.returns-in_default
+returns-in_default c =
     let a = c.args in
-    late a.numbers.now a.list.now a.n a.number _ c.requires c.found_at-at.ensures c.if-n-at.true
+    let (f, q) = some-below 20 _ _ c.in-Some.ensures in
+    late a.numbers.now a.list.now a.n a.number c.requires (omega (arith, f, c.if-at-n.false))
 
-pub returns-then-at-lt-SLOTS : goal.returns-then-at-lt-SLOTS
-returns-then-at-lt-SLOTS c =
+pub returns-in_default-2 : goal.returns-in_default-2
+returns-in_default-2 c =
     let a = c.args in
-    early a.numbers.now a.list.now a.n a.number _ c.requires c.found_at-at.ensures c.if-n-at.false c.if-at-lt-SLOTS.true
+    late a.numbers.now a.list.now a.n a.number c.requires (omega (arith, none-below 20 _ c.in-None.ensures, c.if-n-gt-SLOTS.false))

@@ -1,19 +1,19 @@
 -- `marks_of`: no gap, one past the reach, or the slots decide.
-use Prim.Native.Nat.{◌≤◌}
-use mathlib.Core.Logic.{inl, inr}
-use mathlib.Core.Path.{◌∙◌}
-use native.Mathlib.Omega.{arith}
+use Prim.Native.Nat.{◌<◌, ◌≤◌}
+use mathlib.Core.Logic.{◌⊎◌}
+use mathlib.Core.Path.{◌≡◌, ◌∙◌}
+use borrow.Author.Rules.{rules}
 use Rattle.marks.proofs.Lent.{marks-none, marks-there}
 use Rattle.marks.proofs.marks_of.Goals as goal
 
-pub returns-then-gap-eq0 : goal.returns-then-gap-eq0
-returns-then-gap-eq0 c = let a = c.args in marks-none a.reach a.gap a.memory.now (inl c.if-gap-eq0.true)
-
-pub returns-then-gap-reach : goal.returns-then-gap-reach
-returns-then-gap-reach c = let a = c.args in marks-none a.reach a.gap a.memory.now (inr c.if-gap-reach.true)
-
-pub returns : goal.returns
-returns c =
+pub returns-then-contains : goal.returns-then-contains
+returns-then-contains c =
     let a = c.args in
-    let low : 1 ≤ a.gap = omega (arith, c.if-gap-eq0.false) in
-    c.all_there.ensures ∙ marks-there a.reach a.gap a.memory.now low c.if-gap-reach.false
+    let within : (1 ≤ a.gap) × (a.gap ≤ a.reach) = search rules in
+    c.all_there.ensures ∙ marks-there a.reach a.gap a.memory.now within.0 within.1
+
+pub returns-else-contains : goal.returns-else-contains
+returns-else-contains c =
+    let a = c.args in
+    let out : (a.gap ≡ 0) ⊎ (a.reach < a.gap) = search rules in
+    marks-none a.reach a.gap a.memory.now out

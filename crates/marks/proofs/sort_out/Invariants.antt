@@ -1,11 +1,6 @@
 -- `sort_out`: the loop sorts one slot after another.
-use Prim.Native.Nat.{◌-◌, ◌≤◌}
-use Rattle.condition.specs.Slots.{slot_count}
 use Rattle.marks.specs.Lent.{Sorted}
 use Rattle.marks.proofs.sort_out.Given as goal
 
 abbrev pub invariant-loop-i : goal.invariant-loop-i
-invariant-loop-i l = (l.i ≤ slot_count) × Sorted l.memory l.i 0 l.count l.others l.marks
-
-abbrev pub decreases-loop-i : goal.decreases-loop-i
-decreases-loop-i l = slot_count - l.i
+invariant-loop-i l = Sorted l.memory l.i 0 l.count l.others l.marks

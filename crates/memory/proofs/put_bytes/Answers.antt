@@ -1,29 +1,19 @@
--- `put_bytes`: what the slot holds decides.
-use mathlib.Core.Path.{sym, ap, ◌∙◌}
+-- `put_bytes`: the part that is written over is a run of stores.
+use Prim.Native.Nat.{◌+◌, ◌-◌}
+use mathlib.Core.Path.{◌≡◌, ap, ◌∙◌}
+use lib.ListN.{length}
 use lib.Seq.{sets}
-use Rattle.memory.specs.Memory.{body_bytes, slot_bytes}
+use native.Mathlib.Omega.{arith}
+use Rattle.memory.specs.Memory.{memory_size}
+use Rattle.memory.proofs.Parts.{part-stored}
+use Rattle.memory.proofs.Slots.{slot-length}
+use borrow.Author.Rules.{rules}
 use Rattle.memory.proofs.put_bytes.Goals as goal
 
-pub returns-in-Empty : goal.returns-in-Empty
-unfolding slot_bytes
-returns-in-Empty c =
+pub returns : goal.returns
+returns c =
     let a = c.args in
-    c.put_seven.ensures ∙ sym (ap (λ b. sets a.memory.now a.at (body_bytes a.slot.number b)) c.in-Empty.is)
-
-pub returns-in-Area : goal.returns-in-Area
-unfolding slot_bytes
-returns-in-Area c =
-    let a = c.args in
-    c.put_seven-in-Area.ensures ∙ sym (ap (λ b. sets a.memory.now a.at (body_bytes a.slot.number b)) c.in-Area.is)
-
-pub returns-in-Traction : goal.returns-in-Traction
-unfolding slot_bytes
-returns-in-Traction c =
-    let a = c.args in
-    c.put_seven-in-Traction.ensures ∙ sym (ap (λ b. sets a.memory.now a.at (body_bytes a.slot.number b)) c.in-Traction.is)
-
-pub returns-in-Current : goal.returns-in-Current
-unfolding slot_bytes
-returns-in-Current c =
-    let a = c.args in
-    c.put_seven-in-Current.ensures ∙ sym (ap (λ b. sets a.memory.now a.at (body_bytes a.slot.number b)) c.in-Current.is)
+    let long : length a.memory.now ≡ memory_size = search rules in
+    let put = c.copy_from_slice.ensures.after ∙ c.bytes_of.ensures in
+    part-stored a.memory.now a.at c.copy_from_slice.new.self (a.at + 7 - a.at) (omega (arith, ap length put, slot-length a.slot)) (omega (arith, long))
+    ∙ ap (λ part. sets a.memory.now a.at part) put

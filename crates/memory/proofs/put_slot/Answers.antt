@@ -7,10 +7,6 @@ use Rattle.memory.specs.Memory.{memory_size, set_from, slot_place, slot_bytes, w
 use borrow.Author.Rules.{rules}
 use Rattle.memory.proofs.put_slot.Goals as goal
 
-pub returns-then-i-lt-SLOTS : goal.returns-then-i-lt-SLOTS
-unfolding with_slot
-returns-then-i-lt-SLOTS c = c.put_bytes.ensures
-
 pub returns-else-i-lt-SLOTS : goal.returns-else-i-lt-SLOTS
 unfolding with_slot
 returns-else-i-lt-SLOTS c =

@@ -15,14 +15,14 @@ use Rattle.memory.proofs.put_table.Goals as goal
 
 pub loop-i-init : goal.loop-i-init
 unfolding each
-loop-i-init c = (search rules, record { stored = refl; past = omega arith })
+loop-i-init c = record { stored = refl; past = omega arith }
 
 pub loop-i-preserved : goal.loop-i-preserved
 loop-i-preserved c =
     let l = c.loop-i in
     let a = c.args in
     let table = a.table in
-    (search rules, put-each (bytes table) l.i l.invariant.1 (record { stored = c.put_bytes.ensures; past = omega (arith, slot-length (table_slot table l.i)) }))
+    put-each (bytes table) l.i l.invariant (record { stored = c.put_bytes.ensures; past = omega (arith, slot-length (table_slot table l.i)) })
 
 pub returns : goal.returns
 unfolding table_bytes
@@ -30,5 +30,5 @@ returns c =
     let l = c.loop-i in
     let a = c.args in
     let past : slot_count ≤ l.i = search rules in
-    let all : l.i ≡ slot_count = omega (arith, l.invariant.0, past) in
-    l.invariant.1.stored ∙ ap (λ (n : ℕ). sets a.memory.now a.from (each (bytes a.table) 0 n)) all
+    let all : l.i ≡ slot_count = omega (arith, l.invariant, past) in
+    l.invariant.stored ∙ ap (λ (n : ℕ). sets a.memory.now a.from (each (bytes a.table) 0 n)) all

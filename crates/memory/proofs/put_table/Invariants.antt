@@ -1,9 +1,8 @@
 -- `put_table`: after i turns the bytes of the first i slots are put.
-use Prim.Native.Nat.{ℕ, ◌-◌, ◌≤◌}
+use Prim.Native.Nat.{ℕ}
 use mathlib.Core.List.{List}
 use Rattle.kit.specs.Each.{each}
 use Rattle.kit.specs.Put.{Put}
-use Rattle.condition.specs.Slots.{slot_count}
 use Rattle.condition.specs.declared.slots.Slot.{Slot}
 use Rattle.telegram.specs.Tables.{table_slot}
 use Rattle.memory.specs.Memory.{slot_place, slot_bytes}
@@ -14,7 +13,4 @@ abbrev pub bytes : List Slot → ℕ → List ℕ
 bytes table i = slot_bytes (table_slot table i)
 
 abbrev pub invariant-loop-i : goal.invariant-loop-i
-invariant-loop-i l = (l.i ≤ slot_count) × Put l.initial.memory l.from (each (bytes l.table) 0 l.i) l.memory (slot_place l.from l.i)
-
-abbrev pub decreases-loop-i : goal.decreases-loop-i
-decreases-loop-i l = slot_count - l.i
+invariant-loop-i l = Put l.initial.memory l.from (each (bytes l.fn.table) 0 l.i) l.memory (slot_place l.from l.i)

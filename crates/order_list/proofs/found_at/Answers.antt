@@ -1,75 +1,85 @@
--- `found_at`: the loop sets a bit for each that is the number, and the trailing zeros tell the first.
-use Prim.Native.Nat.{ℕ, ◌+◌, ◌*◌, ◌-◌, ◌<◌, ◌≤◌}
-use mathlib.Core.Bool.{cond}
-use mathlib.Core.List.{List}
-use mathlib.Core.Path.{◌≡◌, sym, ap, ◌∙◌}
-use lib.Count.{count_trailing_zeros, trailing_le}
-use native.Mathlib.Omega.{arith}
-use borrow.Author.Rules.{rules}
+-- `found_at`: the lowest bit that is set tells the first that is the number; none is set where there is none.
+use Rattle.std.proofs.Common.{◌≡◌, ℕ, ◌*◌, ◌^◌, ◌%◌, ◌<◌, ◌≤◌, Bool, true, false, List, get_or, eqb, ltb, bit_or, Some, None, refl, sym, ap, ◌∙◌, subst, arith, rules}
+use Rattle.std.specs.Int.{bit_at, trailing_zeros}
+use Rattle.std.proofs.lemmas.Nat.Bits.{bit_at_set_same, bit_at_set_other, bit_at-trailing_zeros, bit_at-zero}
+use Rattle.std.specs.Int.Bits.{or_zero_r}
+use mir.Syntax.{w32}
+use mir.Val.{bool_byte}
+use borrow.Author.Tests.{eqb-true, eqb-false, ltb-true, ltb-false}
+use Rattle.kit.proofs.Cases.{on}
 use Rattle.order_list.specs.Lists.{found_at}
-use Rattle.order_list.proofs.Marked.{marked, most, marked_turn, marked-end, marked_least, marked-most, marked-first}
-use Rattle.order_list.proofs.found_at.Invariants.{test, whole}
+use Rattle.order_list.proofs.Searched.{searched}
 use Rattle.order_list.proofs.found_at.Goals as goal
 
-small : (numbers : List ℕ) (number : ℕ) → whole numbers number < 0x200000
-unfolding most
-small numbers number = omega (arith, marked-most (test numbers number) 1 0 20)
+-- one bit more, or none
+module _ (bits i : ℕ) (p : i < 20) where
+  left : bit_or bits (0 * 2 ^ i % 4294967296) ≡ bits
+  left = let none : 0 * 2 ^ i % 4294967296 ≡ 0 = omega arith in ap (bit_or bits) none ∙ or_zero_r bits
 
-first : (numbers : List ℕ) (number : ℕ) → count_trailing_zeros 32 (whole numbers number) ≡ found_at numbers number
-unfolding found_at
-first numbers number =
-    let from_zero : 0 + count_trailing_zeros 32 (whole numbers number) ≡ count_trailing_zeros 32 (whole numbers number) = omega arith in
-    sym from_zero ∙ marked-first (test numbers number) 32 0 20 (omega arith)
+  set_same : (is : Bool) → bit_at bits i ≡ 0 → bit_at (bit_or bits (bool_byte is * 2 ^ i % 4294967296)) i ≡ bool_byte is
+  set_same true e = bit_at_set_same w32 bits i (omega arith)
+  set_same false e = ap (λ n. bit_at n i) left ∙ e
 
--- what a turn adds is part of the whole, and so is the next bit
-module _ (numbers : List ℕ) (number bits bit i added : ℕ) (p : i < 20) (e : added ≡ cond (test numbers number i) bit 0)
-    (inv : bits + marked (test numbers number) bit i (20 - i) ≡ whole numbers number) where
-  turned : bits + added + marked (test numbers number) (bit * 2) (i + 1) (20 - (i + 1)) ≡ whole numbers number
-  turned = omega (arith, inv, marked_turn (test numbers number) 20 bit i added p e)
+  set_other : (is : Bool) (k : ℕ) → (k ≡ i → ⊥) → bit_at (bit_or bits (bool_byte is * 2 ^ i % 4294967296)) k ≡ bit_at bits k
+  set_other true k e = bit_at_set_other w32 bits i (omega arith) k e
+  set_other false k e = ap (λ n. bit_at n k) left
 
-  sum-small : bits + added < 0x200000
-  sum-small = omega (arith, turned, small numbers number)
+-- a bit that is set, or not, tells
+bit_told : (is : Bool) (n : ℕ) → n ≡ 1 → n ≡ bool_byte is → is ≡ true
+bit_told true n e f = refl
+bit_told false n e f = absurd (omega arith)
 
-  bit-small : bit * 2 < 0x200000
-  bit-small = omega (arith, turned, small numbers number, marked_least (test numbers number) (bit * 2) (i + 1) (20 - (i + 1)))
-
--- past the last turn the next bit is the one past them all
-ended : (numbers : List ℕ) (number bits bit i : ℕ) → 20 ≤ i → bits + marked (test numbers number) bit i (20 - i) ≡ whole numbers number
-    → bits + bit ≡ whole numbers number
-ended numbers number bits bit i p inv = omega (arith, inv, marked-end (test numbers number) 20 bit i p)
-
-pub loop-i-init : goal.loop-i-init
-loop-i-init c = (search rules, omega arith)
-
-pub overflow_add-bits : goal.overflow_add-bits
-overflow_add-bits c =
-    let l = c.loop-i in
-    let a = c.args in
-    omega (arith, sum-small a.numbers.now a.number l.bits l.bit l.i _ (search rules) c.bit_where-bits.ensures l.invariant.1)
-
-pub overflow_mul-bit : goal.overflow_mul-bit
-overflow_mul-bit c =
-    let l = c.loop-i in
-    let a = c.args in
-    omega (arith, bit-small a.numbers.now a.number l.bits l.bit l.i _ (search rules) c.bit_where-bits.ensures l.invariant.1)
+no_bit : (is : Bool) (n : ℕ) → n ≡ 0 → n ≡ bool_byte is → is ≡ false
+no_bit true n e f = absurd (omega arith)
+no_bit false n e f = refl
 
 pub loop-i-preserved : goal.loop-i-preserved
 loop-i-preserved c =
-    let l = c.loop-i in
-    let a = c.args in
-    (search rules, turned a.numbers.now a.number l.bits l.bit l.i _ (search rules) c.bit_where-bits.ensures l.invariant.1)
+    let i = c.loop-i.i in
+    let bits = c.loop-i.bits in
+    let numbers : List ℕ = c.args.numbers.now in
+    let is : ℕ → Bool = λ k. eqb (get_or numbers k 0) c.args.number in
+    let p : i < 20 = c.loop-i-test.true in
+    let inv = c.loop-i.invariant in
+    let same : bit_at (bit_or bits (c.from.result * 2 ^ i % 4294967296)) i ≡ bool_byte (is i) = rw c.from.ensures (set_same bits i p (is i) (inv.blank i (omega arith))) in
+    let other : (k : ℕ) → (k ≡ i → ⊥) → bit_at (bit_or bits (c.from.result * 2 ^ i % 4294967296)) k ≡ bit_at bits k = λ k e. rw c.from.ensures (set_other bits i p (is i) k e) in
+    record {
+      told = λ k q.
+          on (eqb k i)
+          (λ here. subst (λ j. bit_at (bit_or bits (c.from.result * 2 ^ i % 4294967296)) j ≡ bool_byte (is j)) (sym (eqb-true k i here)) same)
+          (λ there. other k (eqb-false k i there) ∙ inv.told k (omega (arith, eqb-false k i there)));
+      blank = λ k q. other k (λ e. omega arith) ∙ inv.blank k (omega arith);
+    }
 
-pub overflow_add-result : goal.overflow_add-result
-overflow_add-result c =
-    let l = c.loop-i in
-    let a = c.args in
-    omega (arith, ended a.numbers.now a.number l.bits l.bit l.i (search rules) l.invariant.1, small a.numbers.now a.number)
+pub returns-then-bits-eq0 : goal.returns-then-bits-eq0
+unfolding found_at
+returns-then-bits-eq0 c =
+    let numbers : List ℕ = c.args.numbers.now in
+    let is : ℕ → Bool = λ k. eqb (get_or numbers k 0) c.args.number in
+    searched is 20 None
+    (λ k p q.
+    no_bit (is k) _ (ap (λ n. bit_at n k) c.if-bits-eq0.true ∙ bit_at-zero k) (c.loop-i.invariant.told k (omega (arith, c.loop-i-test.false))))
 
-pub overflow_cast-result : goal.overflow_cast-result
-overflow_cast-result c = omega (arith, trailing_le 32 (c.loop-i.bits + c.loop-i.bit))
-
-pub returns : goal.returns
-returns c =
-    let l = c.loop-i in
-    let a = c.args in
-    ap (count_trailing_zeros 32) (ended a.numbers.now a.number l.bits l.bit l.i (search rules) l.invariant.1) ∙ first a.numbers.now a.number
+pub returns-else-bits-eq0 : goal.returns-else-bits-eq0
+unfolding found_at
+returns-else-bits-eq0 c =
+    let bits = c.loop-i.bits in
+    let inv = c.loop-i.invariant in
+    let numbers : List ℕ = c.args.numbers.now in
+    let is : ℕ → Bool = λ k. eqb (get_or numbers k 0) c.args.number in
+    let some : 0 < bits = omega (arith, c.if-bits-eq0.false) in
+    let small : bits < 2 ^ 32 = search rules in
+    let lowest = bit_at-trailing_zeros w32 bits some small in
+    let at : ℕ = trailing_zeros w32 bits in
+    on (ltb at 20)
+    (λ e.
+    let p : at < 20 = ltb-true at 20 e in
+    searched is 20 (Some at) (
+      omega arith,
+      p,
+      bit_told (is at) _ lowest.1 (inv.told at (omega (arith, c.loop-i-test.false))),
+      λ k a b. no_bit (is k) _ (lowest.2 k b) (inv.told k (omega (arith, c.loop-i-test.false))),
+    ))
+    (λ e.
+    let p : 20 ≤ at = ltb-false at 20 e in
+    absurd (omega (arith, lowest.1, inv.blank at (omega (arith, c.loop-i.auto.i-end)))))

@@ -1,15 +1,13 @@
 -- `order_refusal`: each answer by the tests that led to it, row by row of the ladder.
-use Prim.Native.Nat.{ℕ, ◌<◌, ◌≤◌}
-use mathlib.Core.Path.{◌≡◌, sym, ap, ◌∙◌}
-use mathlib.Core.Bool.{Bool, true, false, cond, not}
+use Prim.Native.Nat.{ℕ}
+use mathlib.Core.Path.{◌≡◌, sym, ◌∙◌}
+use mathlib.Core.Bool.{Bool, true, cond, not}
 use mathlib.Core.List.{List}
-use native.Mathlib.Omega.{arith}
 use borrow.Author.Tests.{eq-eqb, ne_eqb}
 use Rattle.kit.specs.Ladder.{ladder}
-use Rattle.order_list.specs.Lists.{is_listed, numbers_of, found_at, order_at}
+use Rattle.order_list.specs.Lists.{is_listed, order_at}
 use Rattle.order_list.specs.declared.Order.{Order}
 use Rattle.kinds.specs.Words.{is_type, second_allowed}
-use Rattle.order_list.proofs.Found.{listed_early, listed-late}
 use Rattle.places.specs.declared.Place.{Place}
 use Rattle.orders.specs.Orders.{is_retyped, order_rows}
 use Rattle.orders.proofs.order_refusal.Goals as goal
@@ -20,17 +18,6 @@ passed : (places : List Place) (list : List ℕ) (j : ℕ) (x : Order) (allowed 
     → ladder 0 (order_rows places list j) ≡ cond (not allowed) 6 (cond (is_listed list j x.number) 7 (cond (is_retyped places x) 8 0))
 unfolding ladder order_rows
 passed places list j x allowed e n k s a = simp (sym e, ne_eqb _ _ n, k, eq-eqb _ _ s, sym a)
-
--- row 7 by where the number was found: earlier in the list, or not
-module _ (list numbers : List ℕ) (j number at : ℕ) (few : j < 20) (all : numbers ≡ numbers_of list) (e : at ≡ found_at numbers number) where
-  found : at ≡ found_at (numbers_of list) number
-  found = e ∙ ap (λ (l : List ℕ). found_at l number) all
-
-  earlier : at < j → is_listed list j number ≡ true
-  earlier = listed_early list number j at (omega arith) found
-
-  unlisted : j ≤ at → is_listed list j number ≡ false
-  unlisted = listed-late list number j at (omega arith) found
 
 pub returns-then-order-eq0 : goal.returns-then-order-eq0
 unfolding ladder order_rows
@@ -58,13 +45,13 @@ returns-then-order-ne0 c places twenty e f =
 pub returns-then-not-second_allowed : goal.returns-then-not-second_allowed
 returns-then-not-second_allowed c places twenty e f = sym (passed places c.args.list.now c.args.j c.order_at-order.result c.second_allowed.result c.order_at-order.ensures c.if-order-eq0.false (sym c.is_kind.ensures ∙ c.if-not-is_kind.false) c.if-order-ne0.false c.second_allowed.ensures ∙ simp c.if-not-second_allowed.true)
 
-pub returns-then-found_at-j : goal.returns-then-found_at-j
-returns-then-found_at-j c places twenty e f = sym (passed places c.args.list.now c.args.j c.order_at-order.result c.second_allowed.result c.order_at-order.ensures c.if-order-eq0.false (sym c.is_kind.ensures ∙ c.if-not-is_kind.false) c.if-order-ne0.false c.second_allowed.ensures ∙ simp (c.if-not-second_allowed.false, earlier c.args.list.now c.args.numbers.now c.args.j c.order_at-order.result.number c.found_at.result c.requires.0 c.requires.1 c.found_at.ensures c.if-found_at-j.true))
+pub returns-then-is_earlier : goal.returns-then-is_earlier
+returns-then-is_earlier c places twenty e f = sym (passed places c.args.list.now c.args.j c.order_at-order.result c.second_allowed.result c.order_at-order.ensures c.if-order-eq0.false (sym c.is_kind.ensures ∙ c.if-not-is_kind.false) c.if-order-ne0.false c.second_allowed.ensures ∙ simp (c.if-not-second_allowed.false, sym c.is_earlier.ensures ∙ c.if-is_earlier.true))
 
 pub returns-then-is_retyped : goal.returns-then-is_retyped
 returns-then-is_retyped c places twenty e f =
-    sym (passed places c.args.list.now c.args.j c.order_at-order.result c.second_allowed.result c.order_at-order.ensures c.if-order-eq0.false (sym c.is_kind.ensures ∙ c.if-not-is_kind.false) c.if-order-ne0.false c.second_allowed.ensures ∙ simp (c.if-not-second_allowed.false, unlisted c.args.list.now c.args.numbers.now c.args.j c.order_at-order.result.number c.found_at.result c.requires.0 c.requires.1 c.found_at.ensures c.if-found_at-j.false, sym (c.is_retyped.ensures places twenty e f) ∙ c.if-is_retyped.true))
+    sym (passed places c.args.list.now c.args.j c.order_at-order.result c.second_allowed.result c.order_at-order.ensures c.if-order-eq0.false (sym c.is_kind.ensures ∙ c.if-not-is_kind.false) c.if-order-ne0.false c.second_allowed.ensures ∙ simp (c.if-not-second_allowed.false, sym c.is_earlier.ensures ∙ c.if-is_earlier.false, sym (c.is_retyped.ensures places twenty e f) ∙ c.if-is_retyped.true))
 
 pub returns : goal.returns
 returns c places twenty e f =
-    sym (passed places c.args.list.now c.args.j c.order_at-order.result c.second_allowed.result c.order_at-order.ensures c.if-order-eq0.false (sym c.is_kind.ensures ∙ c.if-not-is_kind.false) c.if-order-ne0.false c.second_allowed.ensures ∙ simp (c.if-not-second_allowed.false, unlisted c.args.list.now c.args.numbers.now c.args.j c.order_at-order.result.number c.found_at.result c.requires.0 c.requires.1 c.found_at.ensures c.if-found_at-j.false, sym (c.is_retyped.ensures places twenty e f) ∙ c.if-is_retyped.false))
+    sym (passed places c.args.list.now c.args.j c.order_at-order.result c.second_allowed.result c.order_at-order.ensures c.if-order-eq0.false (sym c.is_kind.ensures ∙ c.if-not-is_kind.false) c.if-order-ne0.false c.second_allowed.ensures ∙ simp (c.if-not-second_allowed.false, sym c.is_earlier.ensures ∙ c.if-is_earlier.false, sym (c.is_retyped.ensures places twenty e f) ∙ c.if-is_retyped.false))

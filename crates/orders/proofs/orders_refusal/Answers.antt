@@ -4,6 +4,7 @@ use mathlib.Core.Path.{◌≡◌, sym, ◌∙◌}
 use lib.ListN.{length}
 use native.Mathlib.Nat.{sub-zero}
 use borrow.Author.Rules.{rules}
+use Rattle.wire.proofs.Results.{exit_number, number_nonzero}
 use Rattle.kit.proofs.Ladder.{ladder-each}
 use Rattle.kit.proofs.Loops.{first-go, first_hit, scan-end}
 use Rattle.condition.specs.Slots.{slot_count}
@@ -17,21 +18,22 @@ loop-j-init c =
     let a = c.args in
     (search rules, λ places twenty e f. ladder-each (order_rows places a.list.now) (order-numbered places a.list.now) 0 a.n ∙ simp sub-zero)
 
-pub order_refusal-refusal-requires : goal.order_refusal-refusal-requires
-order_refusal-refusal-requires c =
+pub order_refusal-requires : goal.order_refusal-requires
+order_refusal-requires c =
     let few : c.args.n ≤ 20 = c.requires in
     (search rules, c.numbers_of-numbers.ensures)
 
-pub returns-then-refusal-ne0 : goal.returns-then-refusal-ne0
-returns-then-refusal-ne0 c =
+pub returns-in_err-order_refusal : goal.returns-in_err-order_refusal
+returns-in_err-order_refusal c =
     let l = c.loop-j in
     let a = c.args in
     let twenty : length a.places ≡ slot_count = search rules in
-    let e = c.order_refusal-refusal.ensures a.places twenty c.orders_of-live.ensures c.types_of-types.ensures in
-    e
+    let e = c.in_err-order_refusal.ensures a.places twenty c.orders_of-live.ensures c.types_of-types.ensures in
+    exit_number c.from_residual.result _ c.from_residual.ensures.1
+    ∙ (e
     ∙ sym
     (l.invariant.1 a.places twenty c.orders_of-live.ensures c.types_of-types.ensures
-    ∙ first_hit (judged a.places a.list.now) a.n l.j (search rules) (λ z. c.if-refusal-ne0.true (e ∙ z)))
+    ∙ first_hit (judged a.places a.list.now) a.n l.j (search rules) (number_nonzero _ _ e)))
 
 pub loop-j-preserved : goal.loop-j-preserved
 loop-j-preserved c =
@@ -40,7 +42,7 @@ loop-j-preserved c =
       search rules,
       λ places twenty e f.
           l.invariant.1 places twenty e f
-          ∙ first-go (judged places a.list.now) a.n l.j (search rules) (sym (c.order_refusal-refusal.ensures places twenty e f) ∙ c.if-refusal-ne0.false),
+          ∙ first-go (judged places a.list.now) a.n l.j (search rules) (sym (c.in_ok-order_refusal.ensures places twenty e f)),
     )
 
 pub returns : goal.returns

@@ -18,6 +18,3 @@ Left list n j places = ladder 0 (each (order_rows places list) 0 n) ≡ first_no
 
 abbrev pub invariant-loop-j : goal.invariant-loop-j
 invariant-loop-j l = (l.j ≤ l.n) × OfPlaces l.live l.types (Left l.list l.n l.j)
-
-abbrev pub decreases-loop-j : goal.decreases-loop-j
-decreases-loop-j l = l.n - l.j

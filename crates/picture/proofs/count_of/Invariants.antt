@@ -1,9 +1,8 @@
 -- `count_of`: the loop counts the occupied slots.
-use Prim.Native.Nat.{ℕ, ◌-◌, ◌≤◌}
+use Prim.Native.Nat.{ℕ, ◌≤◌}
 use mathlib.Core.List.{List}
 use mathlib.Core.Path.{◌≡◌}
 use Rattle.kit.specs.Loops.{how_many}
-use Rattle.condition.specs.Slots.{slot_count}
 use Rattle.picture.proofs.Lent.{holds}
 use Rattle.picture.proofs.count_of.Given as goal
 
@@ -11,7 +10,4 @@ abbrev pub count_to : List ℕ → ℕ → ℕ
 count_to memory n = how_many (holds memory) n
 
 abbrev pub invariant-loop-i : goal.invariant-loop-i
-invariant-loop-i l = (l.i ≤ slot_count) × (l.count ≡ count_to l.memory l.i) × (l.count ≤ l.i)
-
-abbrev pub decreases-loop-i : goal.decreases-loop-i
-decreases-loop-i l = slot_count - l.i
+invariant-loop-i l = (l.count ≡ count_to l.memory l.i) × (l.count ≤ l.i)

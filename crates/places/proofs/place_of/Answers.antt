@@ -5,7 +5,7 @@ use Prim.Native.Nat.{ℕ}
 use lib.ListN.{length}
 use borrow.Author.Rules.{rules}
 use Rattle.condition.specs.Slots.{slot_count}
-use Rattle.order_list.specs.Lists.{found_at}
+use Rattle.order_list.specs.Lists.{index_below, found_at}
 use Rattle.places.proofs.Live.{found-live}
 use Rattle.places.proofs.place_of.Goals as goal
 
@@ -13,4 +13,4 @@ pub returns : goal.returns
 returns c =
     let twenty : length c.args.places ≡ slot_count = search rules in
     c.found_at.ensures
-    ∙ (ap (λ (l : List ℕ). found_at l c.args.order) c.orders_of-orders.ensures ∙ found-live c.args.places c.args.order twenty)
+    ∙ ap (index_below 20) (ap (λ (l : List ℕ). found_at l c.args.order) c.orders_of.ensures ∙ found-live c.args.places c.args.order twenty)

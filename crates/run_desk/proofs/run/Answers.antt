@@ -7,4 +7,4 @@ pub loop-lists-init : goal.loop-lists-init
 loop-lists-init c = subst⁻¹ Made c.fresh-desk.ensures made_fresh
 
 pub loop-lists-preserved : goal.loop-lists-preserved
-loop-lists-preserved c = subst⁻¹ Made c.take-taken.ensures (called c.loop-lists.invariant _)
+loop-lists-preserved c = subst⁻¹ Made c.take.ensures (called c.loop-lists.invariant _)

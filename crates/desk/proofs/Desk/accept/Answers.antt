@@ -5,7 +5,7 @@ use mathlib.Core.Path.{◌≡◌, refl, sym, ◌∙◌}
 use lib.ListN.{length}
 use borrow.Author.Rules.{rules}
 use Rattle.wire.specs.Steps.{steps}
-use Rattle.wire.specs.declared.verdicts.Verdict.TheVariants.{Accepted, Refused}
+use Rattle.wire.specs.Verdicts.{Accepted, Refused}
 use Rattle.order_list.specs.Lists.{order_count}
 use Rattle.orders.specs.Orders.{list_refusal}
 use Rattle.orders.proofs.Lists.{fair-length}

@@ -32,24 +32,24 @@ module _ (kind word : ℕ) where
       let end : i ≡ length second_words = omega (arith, ten) in
       rw (ap (among (is_of kind)) (sym end) ∙ sym e, ap (among (has_word kind word)) (sym end) ∙ none) (on known (λ t. rw t refl) (λ t. rw t refl))
 
-pub loop-i-init : goal.loop-i-init
+pub loop-row-init : goal.loop-row-init
 unfolding scan
-loop-i-init c = (omega arith, refl, refl)
+loop-row-init c = (omega arith, refl, refl)
 
 pub returns-then-has_word : goal.returns-then-has_word
 unfolding second_words
-returns-then-has_word c = sym (found _ _ c.loop-i.i (search rules) (sym c.has_word.ensures ∙ c.if-has_word.true))
+returns-then-has_word c = sym (found _ _ c.loop-row.row-index (search rules) (sym c.has_word.ensures ∙ c.if-has_word.true))
 
-pub loop-i-preserved : goal.loop-i-preserved
+pub loop-row-preserved : goal.loop-row-preserved
 unfolding second_words
-loop-i-preserved c =
-    let l = c.loop-i in
+loop-row-preserved c =
+    let l = c.loop-row in
     let a = c.args in
-    let unfit : has_word a.kind a.word (row_at l.i) ≡ false = sym c.has_word.ensures ∙ c.if-has_word.false in (
+    let unfit : has_word a.kind a.word (row_at l.row-index) ≡ false = sym c.has_word.ensures ∙ c.if-has_word.false in (
       search rules,
-      ap (λ known. known || is_of a.kind (row_at l.i)) l.invariant.1 ∙ sym (any-more (λ j. is_of a.kind (row_at j)) l.i),
-      any-more (λ j. has_word a.kind a.word (row_at j)) l.i ∙ rw (l.invariant.2, unfit) refl,
+      ap (λ known. known || is_of a.kind (row_at l.row-index)) l.invariant.1 ∙ sym (any-more (λ j. is_of a.kind (row_at j)) l.row-index),
+      any-more (λ j. has_word a.kind a.word (row_at j)) l.row-index ∙ rw (l.invariant.2, unfit) refl,
     )
 
 pub returns : goal.returns
-returns c = unfound _ _ _ _ (search rules) c.loop-i.invariant.0 c.loop-i.invariant.1 c.loop-i.invariant.2
+returns c = unfound _ _ _ _ (search rules) c.loop-row.invariant.0 c.loop-row.invariant.1 c.loop-row.invariant.2

@@ -5,4 +5,4 @@ use Rattle.program.proofs.answers.put_awaiting.Goals as goal
 
 pub returns : goal.returns
 unfolding awaiting_line
-returns c = poured-then c.put_name-second.ensures (poured-then c.put_words-third.ensures (poured-then c.put_awaited-fourth.ensures c.put_words.ensures))
+returns c = rw (← c.awaited.ensures) (poured-then c.put_name-second.ensures (poured-then c.put_words-third.ensures (poured-then c.put_words-fourth.ensures c.put_words.ensures)))

@@ -1,9 +1,0 @@
--- `see`: whether the slot is occupied decides.
-use borrow.Author.Tests.{eq-eqb, ne_eqb}
-use Rattle.picture.proofs.see.Goals as goal
-
-pub returns-then-shape-ne0 : goal.returns-then-shape-ne0
-returns-then-shape-ne0 c = simp (ne_eqb _ _ c.if-shape-ne0.true)
-
-pub returns-else-shape-ne0 : goal.returns-else-shape-ne0
-returns-else-shape-ne0 c = simp (eq-eqb _ _ c.if-shape-ne0.false)

@@ -1,8 +1,0 @@
--- `put_cab`: the word's bytes.
-use mathlib.Core.Path.{sym}
-use native.Mathlib.Omega.{arith}
-use Rattle.page.proofs.Pages.{paged_as}
-use Rattle.signals_output.proofs.words.put_cab.Goals as goal
-
-pub returns : goal.returns
-returns c = paged_as (sym c.cab_word.ensures) (c.put_word.ensures.paged (omega arith))
