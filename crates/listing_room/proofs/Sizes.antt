@@ -6,6 +6,7 @@ use mathlib.Core.List.{List}
 use lib.Dec.{eqb}
 use native.Mathlib.Omega.{arith}
 use borrow.Author.Tests.{eqb-true}
+use Rattle.std.specs.Prelude.{Option, None, Some}
 use Rattle.kit.specs.Bytes.{Bytes}
 use Rattle.kit.proofs.Ladder.{decides_such}
 use Rattle.kit.proofs.Cases.{on}
@@ -25,7 +26,6 @@ use Rattle.picture.specs.Pictures.{count_of}
 use Rattle.hand.specs.Sets.{begun, set_for, joined}
 use Rattle.hand.specs.declared.Hand.{Hand}
 use Rattle.last_step.specs.LastSteps.{gap_from}
-use Rattle.std.specs.Prelude.{Option, None, Some}
 use Rattle.listener.specs.Answers.{Told}
 use Rattle.listener.specs.Listeners.{after_reading, heard_of, hear_of}
 use Rattle.listener.specs.declared.Listener.{Listener}

@@ -147,9 +147,6 @@ laid_as {w} {x} {y} {l} {m} {i} {j} {a} {b} {s} {t} put stored le laid =
 pub paged_filled : {x : ℕ} {p l m : List ℕ} {page : List ℕ} {next at j : ℕ} {bytes : List ℕ} → Paged x p 0 bytes page next → Poured l at (take next page) m j → Poured l at bytes m j
 paged_filled put copied = poured_as (sym put.held) copied
 
-pub paged-poured : {x : ℕ} {p l m : List ℕ} {page : List ℕ} {next at j : ℕ} {bytes : List ℕ} → Paged x p 0 bytes page next → Poured l at (take (next - 0) page) m j → Poured l at bytes m j
-paged-poured {page = page} {next} put copied = let whole : next - 0 ≡ next = omega arith in paged_filled put (poured_as (ap (λ n. take n page) (sym whole)) copied)
-
 -- ---- one answer
 
 pub agree_laid : {w x : ℕ} {l a s m n : List ℕ} {i j k : ℕ} → Laid w x l i a s m j → Laid w x l i a s n k → (j ≡ k) × (m ≡ n)
