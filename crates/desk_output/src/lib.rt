@@ -40,17 +40,19 @@ pub fn put_table(desk: Desk, out: &mut [u8], at: usize) -> usize
 }
 
 // `refused N at list I` and a line feed.
+#[tactic(auto, unfolding(crate::specs::Outputs::refused_list_line))]
 pub fn put_refused(number: u8, list: u64, line: &mut [u8], at: usize) -> usize
     ensures { Poured line.old at (refused_list_line number list) line.new result }
 {
     let first = text::put_words(line, at, b"refused ");
-    let second = text::put_decimal(line, first, number.into());
+    let second = text::put_decimal(line, first, number as u64);
     let third = text::put_words(line, second, b" at list ");
     let fourth = text::put_decimal(line, third, list);
     text::put_byte(line, fourth, text::LINE_FEED)
 }
 
 // `short list` and a line feed.
+#[tactic(auto, unfolding(crate::specs::Outputs::short_list_line))]
 pub fn put_short(line: &mut [u8], at: usize) -> usize
     ensures { Poured line.old at short_list_line line.new result }
 {
