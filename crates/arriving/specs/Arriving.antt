@@ -1,9 +1,8 @@
 -- Who is new in a step: document 01, "The list and the step", its third point. A list is looked at as far as its first n orders;
 -- those of a desk's list are all that it has.
-use Rattle.std.specs.Prelude.{ℕ, ◌<◌, ◌≤◌, Bool, cond, List, set}
+use Rattle.std.specs.Prelude.{ℕ, Bool, cond, List, set}
 use Rattle.kit.specs.Loops.{fold}
-use Rattle.condition.specs.Slots.{slot_count}
-use Rattle.order_list.specs.Lists.{order_at, found_at}
+use Rattle.order_list.specs.Lists.{order_at}
 use Rattle.order_list.specs.declared.Order.{Order}
 use Rattle.places.specs.Places.{lowest_free, is_live}
 use Rattle.numbers.specs.Numbers.{next_number}
@@ -20,10 +19,6 @@ seated resting order seats =
       places = set seats.places (lowest_free seats.places) (record { order = order.number; slot = record { number = number; body = body_in order } });
       last = number;
     })
-
--- each order of the list from one up to another is among these orders
-abbrev pub AllFound : List ℕ → List ℕ → ℕ → ℕ → Type 0
-AllFound live list from to = (j : ℕ) → from ≤ j → j < to → found_at live (order_at list j).number < slot_count
 
 -- D-08: in list order
 unfoldable pub seated_all : (ℕ → Bool) → List ℕ → Seats → ℕ → Seats

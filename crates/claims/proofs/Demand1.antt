@@ -10,13 +10,17 @@ use borrow.Author.Tests.{ne_eqb}
 use Rattle.kit.specs.Ladder.{NoneHolds}
 use Rattle.kit.proofs.Cases.{given}
 use Rattle.kit.proofs.Contracts.{agree, both_facts}
-use Rattle.wire.specs.Verdicts.{Verdict, Refused, ruled_refused, ruling_of}
+use Rattle.std.specs.Prelude.{Option, None, Some, option_copied}
+use Rattle.wire.specs.Verdicts.{Verdict, Refused, ruled_refused, ruling_of, verdict_in}
 use Rattle.wire.proofs.Answers.{ruling_apart}
-use Rattle.telegram.specs.Telegrams.{read_rows, write_rows}
+use Rattle.wire.proofs.Results.{verdict_in-apart}
+use Rattle.telegram.specs.Telegrams.{read_rows, write_rows, reading_in}
+use Rattle.telegram.proofs.Readings.{reading_in-apart}
 use Rattle.telegram.proofs.Refusals.{reading_refused, writing_refused, refused_untouched}
 use Rattle.train_codes.specs.Refusals.{train_rows}
 use Rattle.orders.specs.Orders.{list_rows}
 use Rattle.desk.specs.Desks.{packet_of}
+use Rattle.desk.proofs.Answers.{answer_in-apart}
 use Rattle.desk.proofs.Promises as desk-promises
 use Rattle.hand.specs.Sets.{begun}
 use Rattle.listener.specs.Listeners.{carries, holding, hear_rows}
@@ -26,10 +30,12 @@ use Rattle.listener.proofs.Lent.{heard_once}
 use Rattle.listener.proofs.Answers.{hearing_apart}
 use Rattle.listener.proofs.Promises as listener-promises
 use Rattle.signals.specs.Answers.{acceptance, absence, refusal_under, Updating}
-use Rattle.signals.specs.Signals.{missed_by, update_of}
+use Rattle.signals.specs.Signals.{missed_by, update_of, update_by}
 use Rattle.signals.specs.declared.Signals.{Signals}
 use Rattle.signals.proofs.Answers.{noted-apart, updating_apart}
 use Rattle.signals.proofs.Promises as train-promises
+use Rattle.claims.specs.Functions.{with_one, bytes_in}
+use Rattle.claims.proofs.Functions.{update_call}
 use Rattle.claims.specs.Demand1.{RefusedBy, Lists, Telegrams, TelegramsLent, TrainTelegrams, TrainTelegramsLent, Buffers, Demand1}
 
 -- what is proved of a verdict is proved of what it tells
@@ -39,17 +45,17 @@ ruled rows verdict by number = (λ e. (by number).0 (ruling_apart verdict (Refus
 lists : Lists
 lists =
     record {
-      defined = λ κs handed answer other lasts others p q. (agree p q, refl);
-      refused = λ κs (desk, (list, _)) answer lasts p. ruled (list_rows desk.places list.now) answer.verdict (subst⁻¹ (λ a. RefusedBy (list_rows desk.places list.now) Refused a.verdict) p (desk-promises.refused-by desk list.now));
+      defined = λ κs handed answer other lasts others p q. (answer_in-apart answer other (agree p q), refl);
+      refused = λ κs (desk, (list, _)) answer lasts p. ruled (list_rows desk.places list.now) (verdict_in answer.verdict) (subst⁻¹ (λ a. RefusedBy (list_rows desk.places list.now) Refused a.verdict) p (desk-promises.refused-by desk list.now));
       unchanged = λ κs (desk, (list, _)) answer lasts p number e.
-          subst⁻¹ (λ a. (number : ℕ) → a.verdict ≡ Refused number → a.desk ≡ desk) p (desk-promises.refused-unchanged desk list.now) number (ruling_apart answer.verdict (Refused number) e);
+          subst⁻¹ (λ a. (number : ℕ) → a.verdict ≡ Refused number → a.desk ≡ desk) p (desk-promises.refused-unchanged desk list.now) number (ruling_apart (verdict_in answer.verdict) (Refused number) e);
     }
 
 telegrams : Telegrams
 telegrams =
     record {
-      read_defined = λ κs handed answer other lasts others p q. (agree p q, refl);
-      read_refused = λ κs (bytes, _) answer lasts p. ruled (read_rows bytes.now) answer.verdict (subst⁻¹ (λ a. RefusedBy (read_rows bytes.now) Refused a.verdict) p (reading_refused bytes.now));
+      read_defined = λ κs handed answer other lasts others p q. (reading_in-apart answer other (agree p q), refl);
+      read_refused = λ κs (bytes, _) answer lasts p. ruled (read_rows bytes.now) (reading_in answer).verdict (subst⁻¹ (λ a. RefusedBy (read_rows bytes.now) Refused a.verdict) p (reading_refused bytes.now));
       defined = λ κs handed answer other lasts others p q. (hearing_apart answer other (agree p q), refl);
       refused = λ κs (listener, (telegram, _)) heard lasts p.
           subst⁻¹ (λ (h : Hearing). RefusedBy (hear_rows listener telegram.now) refused_as h.told) p (listener-promises.refused_when carries listener telegram.now);
@@ -99,39 +105,57 @@ train : TrainTelegrams
 train =
     record {
       defined = λ κs handed answer other lasts others p q. (updating_apart answer other (agree p q), refl);
-      refused = λ κs (signals, (present, (telegram, _))) updated lasts p.
-          subst⁻¹ (λ (u : Updating). present ≡ true → RefusedBy (train_rows telegram.now) refusal_under u.noted) p (call_refused signals telegram.now present);
-      accepted_when = λ κs (signals, (present, (telegram, _))) updated lasts p.
-          subst⁻¹ (λ (u : Updating). present ≡ true → (u.noted ≡ acceptance) ↔ NoneHolds (train_rows telegram.now)) p (call_accepted signals telegram.now present);
-      absent = λ κs (signals, (present, (telegram, _))) updated lasts p.
-          subst⁻¹ (λ (u : Updating). present ≡ false → (u.noted ≡ absence) × (u.signals ≡ missed_by signals)) p (call_absent signals telegram.now present);
-      missed = λ κs (signals, (present, (telegram, _))) updated lasts p.
-          subst⁻¹ (λ (u : Updating). (number : ℕ) → u.noted ≡ refusal_under number → u.signals ≡ missed_by signals) p (call_missed signals telegram.now present);
+      refused = λ κs (signals, (telegram, _)) updated lasts p.
+          let call = option_copied telegram in
+          let q = p ∙ update_call signals call in
+          subst⁻¹ (λ (u : Updating). with_one call ≡ true → RefusedBy (train_rows (bytes_in call)) refusal_under u.noted) q (call_refused signals (bytes_in call) (with_one call));
+      accepted_when = λ κs (signals, (telegram, _)) updated lasts p.
+          let call = option_copied telegram in
+          let q = p ∙ update_call signals call in
+          subst⁻¹ (λ (u : Updating). with_one call ≡ true → (u.noted ≡ acceptance) ↔ NoneHolds (train_rows (bytes_in call))) q (call_accepted signals (bytes_in call) (with_one call));
+      absent = λ κs (signals, (telegram, _)) updated lasts p.
+          let call = option_copied telegram in
+          let q = p ∙ update_call signals call in
+          subst⁻¹ (λ (u : Updating). with_one call ≡ false → (u.noted ≡ absence) × (u.signals ≡ missed_by signals)) q (call_absent signals (bytes_in call) (with_one call));
+      missed = λ κs (signals, (telegram, _)) updated lasts p.
+          let call = option_copied telegram in
+          let q = p ∙ update_call signals call in
+          subst⁻¹ (λ (u : Updating). (number : ℕ) → u.noted ≡ refusal_under number → u.signals ≡ missed_by signals) q (call_missed signals (bytes_in call) (with_one call));
     }
 
 train_lent : TrainTelegramsLent
 train_lent =
     record {
       defined = λ M 𝓤 𝓛 mem run κs handed ghost answer other lasts others.
-          both_facts 𝓤 _ _ _ (λ p q. (noted-apart answer other (agree p.0 q.0), ap (λ after. (after, (tt, (tt, tt)))) (agree p.1 q.1)));
-      refused = λ M 𝓤 𝓛 mem run κs (held, (present, (telegram, _))) ghost answer lasts.
-          fact_mono 𝓤 _ _ (λ p. subst⁻¹ (λ a. present ≡ true → RefusedBy (train_rows telegram.now) refusal_under a) p.0 (call_refused held.now telegram.now present));
-      accepted_when = λ M 𝓤 𝓛 mem run κs (held, (present, (telegram, _))) ghost answer lasts.
-          fact_mono 𝓤 _ _ (λ p. subst⁻¹ (λ a. present ≡ true → (a ≡ acceptance) ↔ NoneHolds (train_rows telegram.now)) p.0 (call_accepted held.now telegram.now present));
-      absent = λ M 𝓤 𝓛 mem run κs (held, (present, (telegram, _))) ghost answer lasts.
-          fact_mono 𝓤 _ _ (λ p none. given (call_absent held.now telegram.now present none) (λ (noted, kept). (p.0 ∙ noted, p.1 ∙ kept)));
-      missed = λ M 𝓤 𝓛 mem run κs (held, (present, (telegram, _))) ghost answer lasts.
-          fact_mono 𝓤 _ _ (λ p number e. p.1 ∙ call_missed held.now telegram.now present number (sym p.0 ∙ e));
+          both_facts 𝓤 _ _ _ (λ p q. (noted-apart answer other (agree p.0 q.0), ap (λ after. (after, (tt, tt))) (agree p.1 q.1)));
+      refused = λ M 𝓤 𝓛 mem run κs (held, (telegram, _)) ghost answer lasts.
+          let call = option_copied telegram in
+          let same = update_call held.now call in
+          fact_mono 𝓤 _ _ (λ p. subst⁻¹ (λ a. with_one call ≡ true → RefusedBy (train_rows (bytes_in call)) refusal_under a) (p.0 ∙ ap (λ (u : Updating). u.noted) same) (call_refused held.now (bytes_in call) (with_one call)));
+      accepted_when = λ M 𝓤 𝓛 mem run κs (held, (telegram, _)) ghost answer lasts.
+          let call = option_copied telegram in
+          let same = update_call held.now call in
+          fact_mono 𝓤 _ _ (λ p. subst⁻¹ (λ a. with_one call ≡ true → (a ≡ acceptance) ↔ NoneHolds (train_rows (bytes_in call))) (p.0 ∙ ap (λ (u : Updating). u.noted) same) (call_accepted held.now (bytes_in call) (with_one call)));
+      absent = λ M 𝓤 𝓛 mem run κs (held, (telegram, _)) ghost answer lasts.
+          let call = option_copied telegram in
+          let same = update_call held.now call in
+          fact_mono 𝓤 _ _ (λ p none. given (call_absent held.now (bytes_in call) (with_one call) none) (λ (noted, kept). (p.0 ∙ (ap (λ (u : Updating). u.noted) same ∙ noted), p.1 ∙ (ap (λ (u : Updating). u.signals) same ∙ kept))));
+      missed = λ M 𝓤 𝓛 mem run κs (held, (telegram, _)) ghost answer lasts.
+          let call = option_copied telegram in
+          let same = update_call held.now call in
+          fact_mono 𝓤 _ _ (λ p number e.
+          p.1 ∙ (ap (λ (u : Updating). u.signals) same
+          ∙ call_missed held.now (bytes_in call) (with_one call) number (sym (p.0 ∙ ap (λ (u : Updating). u.noted) same) ∙ e)));
     }
 
 buffers : Buffers
 unfolding packet_of
 buffers =
     record {
-      defined = λ κs handed answer other lasts others p q. (agree p.0 q.0, ap (λ bytes. (tt, (tt, (bytes, tt)))) (agree p.1 q.1));
-      refused = λ κs (desk, (packet, (buffer, _))) verdict lasts p.
-          ruled (write_rows packet (length buffer.now)) verdict (subst⁻¹ (λ v. RefusedBy (write_rows packet (length buffer.now)) Refused v) p.0 (writing_refused (packet_of desk packet) buffer.now));
-      unchanged = λ κs (desk, (packet, (buffer, _))) verdict lasts p number e. p.1 ∙ refused_untouched (packet_of desk packet) buffer.now number (sym p.0 ∙ ruling_apart verdict (Refused number) e);
+      defined = λ κs handed answer other lasts others p q. (verdict_in-apart answer other (agree p.0 q.0), ap (λ bytes. (tt, (tt, (bytes, tt)))) (agree p.1 q.1));
+      refused = λ κs (desk, (packet, (buffer, _))) answer lasts p.
+          ruled (write_rows packet (length buffer.now)) (verdict_in answer) (subst⁻¹ (λ v. RefusedBy (write_rows packet (length buffer.now)) Refused v) p.0 (writing_refused (packet_of desk packet) buffer.now));
+      unchanged = λ κs (desk, (packet, (buffer, _))) answer lasts p number e. p.1 ∙ refused_untouched (packet_of desk packet) buffer.now number (sym p.0 ∙ ruling_apart (verdict_in answer) (Refused number) e);
     }
 
 pub demand1 : Demand1

@@ -23,7 +23,7 @@ use Rattle.hand.specs.Sets.{begun, set_for, is_held, joined, is_whole as isGathe
 use Rattle.last_step.specs.LastSteps.{is_last, gap_from}
 use Rattle.listener.specs.Listeners.{fresh_listener, holding, taken_by, told_of_table, heard_of, hear_of}
 use Rattle.listener.specs.Answers.{Hearing, refused_as, taken_as}
-use Rattle.last_step.specs.declared.Last.TheVariants.{Step}
+use Rattle.std.specs.Prelude.{Some}
 use Rattle.last_step.proofs.Taken.{never_last, never_gap, same-last, other_last, step-gap}
 use Rattle.listener.specs.declared.Listener.{Listener}
 use Rattle.hand.specs.declared.Hand.{Hand}
@@ -231,7 +231,7 @@ module _ (rest reach : ℕ) {Message : Type 0} (binding : Binding Message) (call
         shown-taken : Shown (n ∷ wholes r) (taken_by reach l with_it)
         shown-taken = record {
           picture = taken-picture reach l with_it ∙ table_is;
-          last = taken-last reach l with_it ∙ ap Step gathered.own_step;
+          last = taken-last reach l with_it ∙ ap Some gathered.own_step;
           marks = taken-marks reach l with_it ∙ rw (gathered.own_step, table_is, gap_is l v.shown, v.shown.picture) refl;
         }
 

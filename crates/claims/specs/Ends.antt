@@ -6,7 +6,7 @@
 -- Hearings.antt. proofs/Ends.antt proves the claim: of every binding that reads back what it wrote, where the listener's figure is not
 -- above the desk's, and the desk's is at most 11.
 use Rattle.telegram.specs.Telegrams.{Reading}
-use Rattle.std.specs.Prelude.{ℕ, ◌+◌, ◌-◌, ◌%◌, ◌≤◌, ◌≡◌, true, cond, List, [], ◌∷◌, replicate}
+use Rattle.std.specs.Prelude.{ℕ, ◌+◌, ◌-◌, ◌%◌, ◌≤◌, ◌≡◌, true, cond, Option, None, Some, List, [], ◌∷◌, replicate}
 use Rattle.condition.specs.Slots.{empty_slot, slot_count}
 use Rattle.wire.specs.Steps.{steps}
 use Rattle.wire.specs.Verdicts.{ruled_refused, ruling_of, number_of}
@@ -16,8 +16,6 @@ use Rattle.desk.specs.Desks.{packet_of}
 use Rattle.picture.specs.Pictures.{count_of}
 use Rattle.listener.specs.Listeners.{fresh_listener, hear_of}
 use Rattle.listener.specs.Answers.{Told, refused_as, as_repeat, as_held, taken_as}
-use Rattle.last_step.specs.declared.Last.{Last}
-use Rattle.last_step.specs.declared.Last.TheVariants.{Never, Step}
 use Rattle.listener.specs.declared.Listener.{Listener}
 use Rattle.claims.specs.Calls.{steps_made, desk_of, table_in, order_in, StoodFrom}
 use Rattle.claims.specs.Hearings.{Item, sent, spoilt, was_heard, heard_whole, wholes, NoneAfter, Near}
@@ -71,9 +69,9 @@ module _ (rest reach : ℕ) {Message : Type 0} (binding : Binding Message) (call
   picture_of (n ∷ before) = table_in rest calls n
 
   -- L-04: and the step last taken
-  abbrev pub last_of : List ℕ → Last
-  last_of [] = Never
-  last_of (n ∷ before) = Step (n % steps)
+  abbrev pub last_of : List ℕ → Option ℕ
+  last_of [] = None
+  last_of (n ∷ before) = Some (n % steps)
 
   -- ---- "A condition is marked as carried on exactly when at most eight steps lie from the previous whole table to this one and the
   -- same order stood in every accepted list from that one to this; a fresh desk's table counts as an empty list."

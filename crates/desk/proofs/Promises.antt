@@ -22,11 +22,10 @@ use Rattle.places.specs.Places.{place_at, lowest_free, is_live}
 use Rattle.orders.specs.Orders.{list_rows, list_refusal}
 use Rattle.orders.proofs.Lists.{fair}
 use Rattle.orders.proofs.Rows.{list-numbered}
-use Rattle.desk.specs.Desks.{base_rest, accept_of, packet_of, Made}
+use Rattle.desk.specs.Desks.{Answer, base_rest, accept_of, packet_of, Made}
 use Rattle.leaving.specs.Leaving.{body_in}
 use Rattle.desk.specs.Steps.{kept_place}
 use Rattle.desk.proofs.Runs.{desk_run, AllAccepted as Accepted-run, OneNotLive}
-use Rattle.desk.specs.declared.Answer.{Answer}
 use Rattle.desk.specs.declared.Desk.{Desk}
 use Rattle.resting.specs.Rests.{is_resting}
 use Rattle.numbers.specs.Numbers.{is_permitted, next_number, number_after}

@@ -1,6 +1,6 @@
 -- The desk and its calls: document 01, "The list and the step" and "Refusal numbers".
 use Rattle.std.specs.Prelude.{ℕ, ◌*◌, cond, List, map, eqb, replicate}
-use Rattle.wire.specs.Verdicts.{verdict_of}
+use Rattle.wire.specs.Verdicts.{Verdict, verdict_of, verdict_in}
 use Rattle.condition.specs.declared.slots.Slot.{Slot}
 use Rattle.telegram.specs.Tables.{four_of}
 use Rattle.telegram.specs.declared.Telegram.{Telegram}
@@ -10,7 +10,7 @@ use Rattle.condition.specs.Slots.{slot_count}
 use Rattle.places.specs.declared.Place.{Place}
 use Rattle.resting.specs.Rests.{none_ended}
 use Rattle.desk.specs.declared.Desk.{Desk}
-use Rattle.desk.specs.declared.Answer.{Answer}
+use Rattle.desk.specs.declared.Answer.{Answer as Answered}
 use Rattle.desk.specs.Steps.{step_of}
 
 -- D-12, D-13: eight tables in a row go without an ended number
@@ -24,6 +24,15 @@ fresh_with rows = record { places = replicate slot_count free_place; ended = rep
 -- D-12: as many rows as an ended number rests; D-05: it is a desk like any other, and its table is written as theirs are
 abbrev pub fresh_desk : Desk
 fresh_desk = fresh_with base_rest
+
+-- C-12: the verdict, and the desk beside it
+pub record Answer : Type 0 where
+  pub verdict : Verdict
+  pub desk : Desk
+
+-- C-12: what the code's answer says
+abbrev pub answer_in : Answered → Answer
+answer_in answer = record { verdict = verdict_in answer.verdict; desk = answer.desk }
 
 -- M-1a, D-02, D-18: refused with the desk as it was, or accepted with the desk after the step; D-17: no row refuses an empty list, and
 -- no order stands in it

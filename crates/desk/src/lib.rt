@@ -3,11 +3,13 @@
 #![tactic(auto)]
 
 ghost use Rattle.std.specs.Prelude.{◌≡◌};
-ghost use Rattle.desk.specs.Desks.{base_rest, fresh_desk, accept_of, Made};
+ghost use Rattle.desk.specs.Desks.{base_rest, fresh_desk, answer_in, accept_of, Made};
 
+use arriving::Seats;
+use leaving::Remains;
 use places::Place;
 use resting::Ended;
-use wire::Verdict;
+use wire::Refusal;
 
 // The ended numbers stand by the step in which they ended, the newest first, and within a step by slot.
 #[derive(Clone, Copy)]
@@ -21,7 +23,7 @@ pub struct Desk {
 // Beside a refusal stands the desk as it was.
 #[derive(Clone, Copy)]
 pub struct Answer {
-    pub verdict: Verdict,
+    pub verdict: Result<(), Refusal>,
     pub desk: Desk,
 }
 
@@ -36,14 +38,13 @@ impl Desk {
     pub const STEPS: u16 = wire::STEPS;
 
     // A desk at step 0 with all slots empty.
+    #[tactic(auto, unfolding(crate::specs::Desks::fresh_with))]
     pub fn fresh() -> Self
         ensures { result ≡ fresh_desk }
     {
-        let place = Place::free();
-        let none = Ended::none();
         Desk {
-            places: [place; 20],
-            ended: [none; 160],
+            places: [Place::free(); 20],
+            ended: [Ended::none(); 160],
             last: 0,
             step: 0,
         }
@@ -52,30 +53,35 @@ impl Desk {
     // Takes the whole list of orders now in force, any bytes of any length: one step, or a refusal that changes nothing.
     pub fn accept(self, list: &[u8]) -> Answer
         requires { Made self }
-        ensures { result ≡ accept_of base_rest self list.now }
+        ensures { answer_in result ≡ accept_of base_rest self list.now }
     {
-        let before = self.places;
-        let refusal = orders::refusal_of(before, list);
-        if refusal != 0 {
+        if let Err(refusal) = orders::refusal_of(self.places, list) {
             return Answer {
-                verdict: Verdict::Refused(refusal),
+                verdict: Err(refusal),
                 desk: self,
             };
         }
         let step = (self.step + 1) % Desk::STEPS;
-        let were = self.ended;
         let n = (list.len() / order_list::LENGTH) as u8;
-        let left = leaving::leave(list, n, step, before, were);
-        let ended = left.ended;
-        let kept = left.places;
-        let seats = arriving::seat_all(kept, self.last, ended, Desk::REST, step, list, n);
-        let places = seats.places;
+        let Remains {
+            places: kept,
+            ended,
+        } = leaving::leave(list, n, step, self.places, self.ended);
+        let Seats { places, last } = arriving::seat_all(
+            kept,
+            self.last,
+            ended,
+            Desk::REST,
+            step,
+            list,
+            n,
+        );
         Answer {
-            verdict: Verdict::Accepted,
+            verdict: Ok(()),
             desk: Desk {
                 places,
                 ended,
-                last: seats.last,
+                last,
                 step,
             },
         }

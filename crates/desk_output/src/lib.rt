@@ -22,7 +22,7 @@ fn put_packet(step: u16, packet: u8, slots: [Slot; 4], out: &mut [u8], at: usize
         slots,
     };
     let mut bytes = [0u8; 26];
-    telegram_writer::write(telegram, &mut bytes);
+    telegram_writer::write(telegram, &mut bytes).unwrap();
     text::put_words(out, at, &bytes)
 }
 
@@ -40,6 +40,7 @@ pub fn put_table(desk: Desk, out: &mut [u8], at: usize) -> usize
 }
 
 // `refused N at list I` and a line feed.
+#[tactic(auto, unfolding(crate::specs::Outputs::refused_list_line))]
 pub fn put_refused(number: u8, list: u64, line: &mut [u8], at: usize) -> usize
     ensures { Poured line.old at (refused_list_line number list) line.new result }
 {
@@ -47,10 +48,11 @@ pub fn put_refused(number: u8, list: u64, line: &mut [u8], at: usize) -> usize
     let second = text::put_decimal(line, first, number as u64);
     let third = text::put_words(line, second, b" at list ");
     let fourth = text::put_decimal(line, third, list);
-    text::put_byte(line, fourth, 10)
+    text::put_byte(line, fourth, text::LINE_FEED)
 }
 
 // `short list` and a line feed.
+#[tactic(auto, unfolding(crate::specs::Outputs::short_list_line))]
 pub fn put_short(line: &mut [u8], at: usize) -> usize
     ensures { Poured line.old at short_list_line line.new result }
 {

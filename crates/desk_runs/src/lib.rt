@@ -7,8 +7,7 @@ ghost use Rattle.kit.specs.Put.{Poured};
 ghost use Rattle.desk.specs.Desks.{base_rest, accept_of, Made};
 ghost use Rattle.desk_runs.specs.Runs.{table_for, line_for, run_tables, refused_lines, desk_at_end};
 
-use desk::Desk;
-use wire::Verdict;
+use desk::{Answer, Desk};
 
 // How many bytes were put into each of the two buffers.
 #[derive(Clone, Copy)]
@@ -24,34 +23,33 @@ struct Taken {
     ran: Ran,
 }
 
-// One list: the table after it, or the line that it is refused.
-fn take(desk: Desk, list: &[u8], lists: u64, tables: &mut [u8], lines: &mut [u8], ran: Ran) -> Taken
-    requires { Made desk × (ran.tables ≤ length tables.old) × (ran.lines ≤ length lines.old) }
-    ensures { (result.desk ≡ (accept_of base_rest desk list.now).desk)
-        × Poured tables.old ran.tables (table_for (accept_of base_rest desk list.now).verdict (accept_of base_rest desk list.now).desk) tables.new result.ran.tables
-        × Poured lines.old ran.lines (line_for (accept_of base_rest desk list.now).verdict lists) lines.new result.ran.lines }
+// One list more: the table after it, or the line that it is refused.
+fn take(before: Taken, list: &[u8], lists: u64, tables: &mut [u8], lines: &mut [u8]) -> Taken
+    requires { Made before.desk × (before.ran.tables ≤ length tables.old) × (before.ran.lines ≤ length lines.old) }
+    ensures { (result.desk ≡ (accept_of base_rest before.desk list.now).desk)
+        × Poured tables.old before.ran.tables (table_for (accept_of base_rest before.desk list.now).verdict (accept_of base_rest before.desk list.now).desk) tables.new result.ran.tables
+        × Poured lines.old before.ran.lines (line_for (accept_of base_rest before.desk list.now).verdict lists) lines.new result.ran.lines }
 {
-    let answer = desk.accept(list);
-    let verdict = answer.verdict;
-    let next = answer.desk;
+    let Answer { verdict, desk } = before.desk.accept(list);
+    let ran = before.ran;
     match verdict {
-        Verdict::Accepted => {
-            let end = desk_output::put_table(next, tables, ran.tables);
+        Ok(()) => {
+            let tables = desk_output::put_table(desk, tables, ran.tables);
             Taken {
-                desk: next,
+                desk,
                 ran: Ran {
-                    tables: end,
+                    tables,
                     lines: ran.lines,
                 },
             }
         }
-        Verdict::Refused(number) => {
-            let end = desk_output::put_refused(number, lists, lines, ran.lines);
+        Err(refusal) => {
+            let lines = desk_output::put_refused(refusal.into(), lists, lines, ran.lines);
             Taken {
-                desk: next,
+                desk,
                 ran: Ran {
                     tables: ran.tables,
-                    lines: end,
+                    lines,
                 },
             }
         }
@@ -66,29 +64,25 @@ fn hand_over(input: &[u8], tables: &mut [u8], lines: &mut [u8]) -> Taken
         × Poured tables.old 0 (run_tables input.now) tables.new result.ran.tables
         × Poured lines.old 0 (refused_lines input.now) lines.new result.ran.lines }
 {
-    let mut desk = Desk::fresh();
-    let mut ran = Ran {
-        tables: 0,
-        lines: 0,
+    let mut taken = Taken {
+        desk: Desk::fresh(),
+        ran: Ran {
+            tables: 0,
+            lines: 0,
+        },
     };
     let mut lists: u64 = 0;
     let mut rest = input;
     while !rest.is_empty() {
         let Some(size) = frames::call_size(rest, None) else {
-            let past = desk_output::put_short(lines, ran.lines);
-            let short = Ran {
-                tables: ran.tables,
-                lines: past,
-            };
-            return Taken { desk, ran: short };
+            taken.ran.lines = desk_output::put_short(lines, taken.ran.lines);
+            return taken;
         };
         lists += 1;
-        let taken = take(desk, &rest[frames::LENGTH..size], lists, tables, lines, ran);
-        desk = taken.desk;
-        ran = taken.ran;
+        taken = take(taken, &rest[frames::LENGTH..size], lists, tables, lines);
         rest = &rest[size..];
     }
-    Taken { desk, ran }
+    taken
 }
 
 // The tables and the lines that come of all lists, into two buffers.
@@ -96,8 +90,7 @@ pub fn run(input: &[u8], tables: &mut [u8], lines: &mut [u8]) -> Ran
     ensures { Poured tables.old 0 (run_tables input.now) tables.new result.tables
         × Poured lines.old 0 (refused_lines input.now) lines.new result.lines }
 {
-    let handed = hand_over(input, tables, lines);
-    handed.ran
+    hand_over(input, tables, lines).ran
 }
 
 // The desk that all lists leave, from a fresh one on. A refused list leaves it as it was, and so does an input's tail that is no whole list.
@@ -105,8 +98,5 @@ pub fn run(input: &[u8], tables: &mut [u8], lines: &mut [u8]) -> Ran
 pub fn desk_after(input: &[u8]) -> Desk
     ensures { result ≡ desk_at_end input.now }
 {
-    let mut tables = [0u8; 1];
-    let mut lines = [0u8; 1];
-    let handed = hand_over(input, &mut tables, &mut lines);
-    handed.desk
+    hand_over(input, &mut [], &mut []).desk
 }

@@ -2,33 +2,25 @@
 #![tactic(auto)]
 
 ghost use Rattle.std.specs.Prelude.{◌≡◌};
+ghost use Rattle.wire.specs.Verdicts.{verdict_in};
 ghost use Rattle.telegram.specs.Telegrams.{write_verdict, written};
 ghost use Rattle.desk.specs.Desks.{table_of, packet_of};
 
 use condition::Slot;
 use desk::Desk;
 use telegram::Telegram;
-use wire::Verdict;
+use wire::Refusal;
 
 // The twenty slots.
 pub fn table_of(desk: Desk) -> [Slot; 20]
     ensures { result ≡ table_of desk }
 {
-    let places = desk.places;
-    let mut table = [Slot::empty(); 20];
-    let mut i: usize = 0;
-    while i < Desk::SLOTS {
-        let place = places[i];
-        let slot = place.slot;
-        table[i] = slot;
-        i += 1;
-    }
-    table
+    desk.places.map(|place| place.slot)
 }
 
 // Writes one packet of the table into a buffer of any length, or refuses and leaves the buffer as it is.
-pub fn write(desk: Desk, packet: u8, buffer: &mut [u8]) -> Verdict
-    ensures { (result ≡ write_verdict (packet_of desk packet) buffer.old)
+pub fn write(desk: Desk, packet: u8, buffer: &mut [u8]) -> Result<(), Refusal>
+    ensures { (verdict_in result ≡ write_verdict (packet_of desk packet) buffer.old)
         × (buffer.new ≡ written (packet_of desk packet) buffer.old) }
 {
     let table = table_of(desk);

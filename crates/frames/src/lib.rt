@@ -7,6 +7,9 @@ ghost use Rattle.frames.specs.Frames.{bare_in, follows, size_given, whole_size};
 // How many bytes a length takes.
 pub const LENGTH: usize = 2;
 
+// The length of a call with no telegram. It is bare.
+pub const NO_TELEGRAM: u16 = 0xFFFF;
+
 // How many bytes follow a length.
 #[tactic(auto, unfolding(crate::specs::Frames::follows))]
 fn follows(word: u16, bare: Option<u16>) -> u16

@@ -17,7 +17,7 @@ use Rattle.hand.specs.Sets.{begun, set_for, is_held, joined, is_whole}
 use Rattle.last_step.specs.LastSteps.{gap_from, is_last}
 use Rattle.listener.specs.Answers.{refused_as, as_repeat, as_held}
 use Rattle.listener.specs.Listeners.{fresh_listener, mark_at, holding, taken_by, told_of_table, heard_of, after_reading, hear_of}
-use Rattle.last_step.specs.declared.Last.TheVariants.{Never, Step}
+use Rattle.std.specs.Prelude.{None, Some}
 use Rattle.listener.specs.declared.Listener.{Listener}
 use Rattle.hand.specs.declared.Hand.{Hand}
 
@@ -73,7 +73,7 @@ pub fresh-picture : fresh_listener.picture ≡ replicate slot_count empty_slot
 unfolding fresh_listener
 fresh-picture = refl
 
-pub fresh-last : fresh_listener.last ≡ Never
+pub fresh-last : fresh_listener.last ≡ None
 unfolding fresh_listener
 fresh-last = refl
 
@@ -91,7 +91,7 @@ module _ (reach : ℕ) (listener : Listener) (set : Hand) where
   unfolding taken_by
   taken-picture = refl
 
-  pub taken-last : (taken_by reach listener set).last ≡ Step set.step
+  pub taken-last : (taken_by reach listener set).last ≡ Some set.step
   unfolding taken_by
   taken-last = refl
 

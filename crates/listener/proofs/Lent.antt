@@ -27,8 +27,7 @@ use Rattle.hand.specs.declared.Hand.{Hand}
 use Rattle.hand.proofs.Lent.{Below, begun-length, begun-below, begun-hand, joined_length, joined-below, joined-hand}
 use Rattle.last_step.specs.LastSteps.{is_last, gap_from}
 use Rattle.last_step.specs.Lent.{last_in}
-use Rattle.last_step.specs.declared.Last.{Last}
-use Rattle.last_step.specs.declared.Last.TheVariants.{Step}
+use Rattle.std.specs.Prelude.{Option, Some}
 use Rattle.listener.specs.Answers.{Told, Hearing, refused_as, as_repeat, as_held, taken_as, told_of}
 use Rattle.listener.specs.Listeners.{carries, holding, taken_by, told_of_table, heard_of, hear_of}
 use Rattle.listener.specs.Lent.{listener_in, memory_for, taken_with, shifted_in, taken_in, memory_after, LeftBy, HeardIn, Left, taken_left, judged_left, added_left}
@@ -154,7 +153,7 @@ module _ (memory telegram : List ℕ) (whole : length telegram ≡ 26) (packet :
           listener = record {
             picture = set_in after;
             marks = marks_of carries (gap_from (last-below after memory after-below i) (hand_in after).step) (picture-below after memory after-below i) (set_in after);
-            last = Step (hand_in after).step;
+            last = Some (hand_in after).step;
             hand = begun 0;
           };
         })
@@ -229,7 +228,7 @@ module _ (memory telegram : List ℕ) (whole : length telegram ≡ 26) (packet :
 -- ---- the parts of a hearing, by what each call gave
 
 module _ (memory : List ℕ) where
-  pub taken_by_lem : (after : List ℕ) (step count gap : ℕ) (last : Last) (marks : List Bool) → step ≡ (hand_in memory).step → last ≡ last_in memory → gap ≡ gap_from last step
+  pub taken_by_lem : (after : List ℕ) (step count gap : ℕ) (last : Option ℕ) (marks : List Bool) → step ≡ (hand_in memory).step → last ≡ last_in memory → gap ≡ gap_from last step
       → count ≡ count_of (set_in memory) → marks ≡ marks_of carries gap (picture_in memory) (set_in memory) → after ≡ shifted_in memory step marks
       → ◌≡◌ {A = Left} (record { told = taken_as step count gap; memory = after }) (taken_left carries memory)
   unfolding taken_left taken_in

@@ -18,7 +18,7 @@ use Rattle.hand.specs.Lent.{hand_in, begun_in}
 use Rattle.hand.specs.Sets.{begun}
 use Rattle.hand.proofs.Lent.{Below, begun-below, begun-hand}
 use Rattle.last_step.specs.Lent.{last_in, with_last}
-use Rattle.last_step.specs.declared.Last.TheVariants.{Never, Step}
+use Rattle.std.specs.Prelude.{None, Some}
 use Rattle.last_step.proofs.Lent.{last-back}
 use Rattle.listener.specs.Listeners.{holding}
 use Rattle.listener.specs.Lent.{listener_in, shifted_in}
@@ -40,7 +40,7 @@ module _ (a b : List ℕ) (below : Below a b) where
   pub last-below : last_in a ≡ last_in b
   unfolding last_in
   last-below =
-      λ t. cond (eqb (below last_from (omega arith) t) 0) Never (Step (word_of_two (below (last_from + 1) (omega arith) t) (below (last_from + 2) (omega arith) t)))
+      λ t. cond (eqb (below last_from (omega arith) t) 0) None (Some (word_of_two (below (last_from + 1) (omega arith) t) (below (last_from + 2) (omega arith) t)))
 
   -- so only the set is another one
   pub keeps : listener_in a ≡ holding (listener_in b) (hand_in a)
@@ -101,12 +101,12 @@ module _ (memory : List ℕ) (long : length memory ≡ memory_size) where
     unfolding with_last
     last-long = length-sets memory last_from run ∙ long
 
-    own-last : last_in (with_last memory step) ≡ Step step
+    own-last : last_in (with_last memory step) ≡ Some step
     unfolding with_last
-    own-last = last-back memory long (Step step)
+    own-last = last-back memory long (Some step)
 
 pub shifted_means : (memory : List ℕ) (step : ℕ) (marks : List Bool) → length memory ≡ memory_size → length marks ≡ slot_count
-    → listener_in (shifted_in memory step marks) ≡ record { picture = set_in memory; marks = marks; last = Step step; hand = begun 0 }
+    → listener_in (shifted_in memory step marks) ≡ record { picture = set_in memory; marks = marks; last = Some step; hand = begun 0 }
 unfolding listener_in shifted_in
 shifted_means memory step marks long all =
     let marked : List ℕ = with_marks memory marks in
@@ -120,5 +120,5 @@ shifted_means memory step marks long all =
     picture-below (begun_in taken 0) taken below ∙ (last-picture shown shown-long' step ∙ (own-picture marked marked-long' ∙ own-set memory long marks all)) in
     let own : marks_in (begun_in taken 0) ≡ marks =
     marks-below (begun_in taken 0) taken below ∙ (last-marks shown shown-long' step ∙ (shown-marks marked marked-long' ∙ own-marks memory long marks all)) in
-    let last : last_in (begun_in taken 0) ≡ Step step = last-below (begun_in taken 0) taken below ∙ own-last shown shown-long' step in
+    let last : last_in (begun_in taken 0) ≡ Some step = last-below (begun_in taken 0) taken below ∙ own-last shown shown-long' step in
     λ t. record { picture = picture t; marks = own t; last = last t; hand = begun-hand taken 0 taken-long t }

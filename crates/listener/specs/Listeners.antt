@@ -17,7 +17,7 @@
 --   R-21  the repeat rules after these, 15 last: `hear_rows`, and the order of `after_reading` and of the rows of `heard_of`
 --
 -- What an answer tells is said in Answers.antt (C-12).
-use Rattle.std.specs.Prelude.{ℕ, Bool, false, not, ◌&&◌, List, [], ◌∷◌, ◌++◌, get_or, replicate}
+use Rattle.std.specs.Prelude.{ℕ, Bool, false, not, ◌&&◌, None, Some, List, [], ◌∷◌, ◌++◌, get_or, replicate}
 use Rattle.kit.specs.Ladder.{ladder}
 use Rattle.condition.specs.Slots.{empty_slot, slot_count}
 use Rattle.wire.specs.Verdicts.{Verdict, Accepted, Refused}
@@ -27,7 +27,6 @@ use Rattle.picture.specs.Pictures.{count_of, clashes}
 use Rattle.marks.specs.Marks.{marks_of}
 use Rattle.hand.specs.Sets.{begun, set_for, is_held, joined, is_whole}
 use Rattle.last_step.specs.LastSteps.{is_last, gap_from}
-use Rattle.last_step.specs.declared.Last.TheVariants.{Never, Step}
 use Rattle.listener.specs.Answers.{Told, Hearing, refused_as, as_repeat, as_held, taken_as}
 use Rattle.listener.specs.declared.Listener.{Listener}
 use Rattle.hand.specs.declared.Hand.{Hand}
@@ -39,7 +38,7 @@ carries = 8
 -- A-20: a fresh listener: an empty picture, no step taken, and no set in hand. The set of step 0 with nothing in it stands for that:
 -- it is how a set of step 0 begins, and any other step number drops it.
 unfoldable pub fresh_listener : Listener
-fresh_listener = record { picture = replicate slot_count empty_slot; marks = replicate slot_count false; last = Never; hand = begun 0 }
+fresh_listener = record { picture = replicate slot_count empty_slot; marks = replicate slot_count false; last = None; hand = begun 0 }
 
 -- L-03: the listener with another set in hand
 abbrev pub holding : Listener → Hand → Listener
@@ -51,7 +50,7 @@ taken_by reach listener hand =
     record {
       picture = hand.slots;
       marks = marks_of reach (gap_from listener.last hand.step) listener.picture hand.slots;
-      last = Step hand.step;
+      last = Some hand.step;
       hand = begun 0;
     }
 

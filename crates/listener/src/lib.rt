@@ -4,8 +4,8 @@
 // It works in memory that is lent (`hear_in`), so that no table is handed over for a telegram. `Listener::hear` is the same by value.
 #![tactic(auto)]
 
-ghost use Rattle.std.specs.Prelude.{◌≤◌, ◌≡◌};
-ghost use Rattle.telegram.specs.Telegrams.{packet_in, step_in, telegram_of, read_refusal, read_of};
+ghost use Rattle.std.specs.Prelude.{◌≡◌};
+ghost use Rattle.telegram.specs.Telegrams.{step_in, telegram_of, read_refusal, read_of};
 ghost use Rattle.hand.specs.Lent.{hand_in};
 ghost use Rattle.hand.specs.Sets.{set_for, is_held};
 ghost use Rattle.listener.specs.Answers.{told_of, hearing_of};
@@ -14,14 +14,13 @@ ghost use Rattle.listener.specs.Lent.{listener_in, listener_bytes, memory_for, s
 
 use condition::Slot;
 use hand::Hand;
-use last_step::Last;
-use wire::STEPS;
+use wire::{Refusal, STEPS};
 
 #[derive(Clone, Copy)]
 pub struct Listener {
     pub picture: [Slot; 20],
     pub marks: [bool; 20],
-    pub last: Last,
+    pub last: Option<u16>,
     pub hand: Hand,
 }
 
@@ -47,18 +46,18 @@ impl Listener {
     pub const CARRIES: u16 = 8;
 
     // A listener that has heard nothing.
+    #[tactic(auto, unfolding(crate::specs::Listeners::fresh_listener, hand::specs::Sets::begun))]
     pub fn fresh() -> Self
         ensures { result ≡ fresh_listener }
     {
-        let none = Slot::empty();
         Listener {
-            picture: [none; 20],
+            picture: [Slot::empty(); 20],
             marks: [false; 20],
-            last: Last::Never,
+            last: None,
             hand: Hand {
                 step: 0,
                 held: [false; 5],
-                slots: [none; 20],
+                slots: [Slot::empty(); 20],
             },
         }
     }
@@ -69,8 +68,10 @@ impl Listener {
     {
         let mut memory = memory_of(self);
         let answer = hear_in(&mut memory, telegram);
-        let listener = listener_in(&memory);
-        Heard { answer, listener }
+        Heard {
+            answer,
+            listener: listener_in(&memory),
+        }
     }
 }
 
@@ -78,31 +79,24 @@ impl Listener {
 pub fn memory_of(listener: Listener) -> [u8; 310]
     ensures { result ≡ listener_bytes listener }
 {
-    let mut memory = [0u8; 310];
-    let picture = listener.picture;
-    let marks = listener.marks;
-    let last = listener.last;
-    let hand = listener.hand;
-    memory::put_picture(&mut memory, picture);
-    memory::put_marks(&mut memory, marks);
-    last_step::put_last(&mut memory, last);
-    hand::put_hand(&mut memory, hand);
+    let mut memory = [0; 310];
+    memory::put_picture(&mut memory, listener.picture);
+    memory::put_marks(&mut memory, listener.marks);
+    last_step::put_last(&mut memory, listener.last);
+    hand::put_hand(&mut memory, listener.hand);
     memory
 }
 
 // The listener that a memory means.
+#[tactic(auto, unfolding(crate::specs::Lent::listener_in))]
 pub fn listener_in(memory: &[u8; 310]) -> Listener
     ensures { result ≡ listener_in memory.now }
 {
-    let picture = memory::picture_in(memory);
-    let marks = memory::marks_in(memory);
-    let last = last_step::last_in(memory);
-    let hand = hand::hand_in(memory);
     Listener {
-        picture,
-        marks,
-        last,
-        hand,
+        picture: memory::picture_in(memory),
+        marks: memory::marks_in(memory),
+        last: last_step::last_in(memory),
+        hand: hand::hand_in(memory),
     }
 }
 
@@ -113,14 +107,8 @@ fn step_in(telegram: &[u8]) -> u16
     wire::word_at(telegram, 0) % STEPS
 }
 
-// The packet number of a telegram.
-fn packet_in(telegram: &[u8]) -> u8
-    ensures { (result ≡ packet_in telegram.now) × (result ≤ 7) }
-{
-    (wire::word_at(telegram, 0) / STEPS) as u8
-}
-
 // The set becomes the picture, and no set is in hand.
+#[tactic(auto, unfolding(crate::specs::Lent::shifted_in))]
 fn shift(memory: &mut [u8; 310], step: u16, marks: [bool; 20])
     ensures { memory.new ≡ shifted_in memory.old step marks }
 {
@@ -135,8 +123,7 @@ fn take(memory: &mut [u8; 310]) -> Answer
     ensures { record { told = told_of result; memory = memory.new } ≡ taken_left carries memory.old }
 {
     let step = hand::step_of(memory);
-    let last = last_step::last_in(memory);
-    let gap = last_step::gap_from(last, step);
+    let gap = last_step::gap_from(last_step::last_in(memory), step);
     let count = picture::count_of(memory);
     let marks = marks::marks_of(Listener::CARRIES, gap, memory);
     shift(memory, step, marks);
@@ -149,9 +136,10 @@ fn judge(memory: &mut [u8; 310]) -> Answer
 {
     if picture::clashes(memory) {
         hand::begin(memory, 0);
-        return Answer::Refused(15);
+        Answer::Refused(u8::from(Refusal::NumberClash))
+    } else {
+        take(memory)
     }
-    take(memory)
 }
 
 // A telegram goes into the set, which is judged once it is whole.
@@ -160,20 +148,22 @@ fn add(memory: &mut [u8; 310], telegram: &[u8]) -> Answer
 {
     hand::join(memory, telegram);
     if hand::is_whole(memory) {
-        return judge(memory);
+        judge(memory)
+    } else {
+        Answer::Held
     }
-    Answer::Held
 }
 
 // Whether a packet is held already for the set of this step. A set of another step is dropped, and one of this step begins.
 fn find_or_begin(memory: &mut [u8; 310], step: u16, packet: u8) -> bool
     ensures { (result ≡ is_held (set_for (hand_in memory.old) step) packet) × (memory.new ≡ memory_for memory.old step) }
 {
-    if hand::step_of(memory) != step {
+    if hand::step_of(memory) == step {
+        hand::is_held(memory, packet)
+    } else {
         hand::begin(memory, step);
-        return false;
+        false
     }
-    hand::is_held(memory, packet)
 }
 
 // A telegram that the reader accepts.
@@ -181,26 +171,21 @@ fn listen(memory: &mut [u8; 310], telegram: &[u8]) -> Answer
     requires { read_refusal telegram.now ≡ 0 }
     ensures { LeftBy carries (heard_of carries (listener_in memory.old) (telegram_of telegram.now)) memory.old telegram.now (told_of result) memory.new }
 {
-    let whole: &[u8] = memory;
     let step = step_in(telegram);
-    let packet = packet_in(telegram);
-    let last = last_step::last_in(memory);
-    if last_step::is_last(last, step) {
-        return Answer::Repeat;
+    let packet = hand::packet_in(telegram);
+    if last_step::is_last(last_step::last_in(memory), step) || find_or_begin(memory, step, packet) {
+        Answer::Repeat
+    } else {
+        add(memory, telegram)
     }
-    if find_or_begin(memory, step, packet) {
-        return Answer::Repeat;
-    }
-    add(memory, telegram)
 }
 
 // Hears a telegram of any bytes and any length, in lent memory.
 pub fn hear_in(memory: &mut [u8; 310], telegram: &[u8]) -> Answer
     ensures { HeardIn carries memory.old telegram.now result memory.new }
 {
-    let refusal = telegram_reader::refusal_of(telegram);
-    if refusal != 0 {
-        return Answer::Refused(refusal);
+    match telegram_reader::refusal_of(telegram) {
+        Ok(()) => listen(memory, telegram),
+        Err(refusal) => Answer::Refused(u8::from(refusal)),
     }
-    listen(memory, telegram)
 }

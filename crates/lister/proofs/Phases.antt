@@ -30,23 +30,6 @@ here start bytes m same = subst⁻¹ MadeByPieces same (taken_piece m bytes)
 pub lacks : {lister : Lister} → MadeByPieces lister → lister.kept < 26
 lacks m = let kept = (made_kept m).1 in omega (arith, kept.short, kept.counted)
 
--- the bytes of a turn, after those of the turns before
-module _ (start : Lister) (piece : List ℕ) {from to : ℕ} (forth : from ≤ to) where
-  bytes-to : take to piece ≡ take from piece ++ take (to - from) (drop from piece)
-  bytes-to = let e : to ≡ from + (to - from) = omega arith in ap (λ (n : ℕ). take n piece) e ∙ take-add from (to - from) piece
-
-  pub again : {lister next : Lister} → lister ≡ take_of start (take from piece) → next ≡ take_of lister (take (to - from) (drop from piece)) → next ≡ take_of start (take to piece)
-  again same step =
-      step ∙ (ap (λ (s : Lister). take_of s (take (to - from) (drop from piece))) same
-      ∙ (sym (take-then start (take from piece) (take (to - from) (drop from piece))) ∙ ap (take_of start) (sym bytes-to)))
-
-  pub lines-to : {lister : Lister} → lister ≡ take_of start (take from piece)
-      → piece_lines start (take to piece) ≡ piece_lines start (take from piece) ++ piece_lines lister (take (to - from) (drop from piece))
-  lines-to same =
-      ap (piece_lines start) bytes-to
-      ∙ (lines-of-then start (take from piece) (take (to - from) (drop from piece))
-      ∙ ap (λ (s : Lister). piece_lines start (take from piece) ++ piece_lines s (take (to - from) (drop from piece))) (sym same))
-
 -- a piece in two parts
 pub two_parts : (start : Lister) {piece : List ℕ} (first second : List ℕ) → piece ≡ first ++ second → {between end : Lister} {l m n : List ℕ} {at i j : ℕ}
     → (between ≡ take_of start first) × Poured l at (piece_lines start first) m i → (end ≡ take_of between second) × Poured m i (piece_lines between second) n j

@@ -7,13 +7,15 @@ ghost use Rattle.listing.specs.Listings.{tail_line, listing, end_of};
 use lister::Lister;
 
 // A line for a short tail.
+#[tactic(auto, unfolding(crate::specs::Listings::tail_line))]
 fn put_tail(kept: usize, out: &mut [u8], at: usize) -> usize
     ensures { Poured out.old at (tail_line kept) out.new result }
 {
     if kept == 0 {
-        return text::put_words(out, at, b"");
+        at.min(out.len())
+    } else {
+        listing_lines::put_refused(10, out, at)
     }
-    listing_lines::put_refused(10, out, at)
 }
 
 // The end of a listing: a line for a short tail, and how many tables were taken.
@@ -28,9 +30,7 @@ pub fn finish(lister: Lister, out: &mut [u8], at: usize) -> usize
 pub fn list(recording: &[u8], out: &mut [u8]) -> usize
     ensures { Poured out.old 0 (listing recording.now) out.new result }
 {
-    let lister = Lister::begun();
     let first = listing_lines::put_header(out, 0);
-    let listed = lister.take(recording, out, first);
-    let last = listed.lister;
-    finish(last, out, listed.at)
+    let listed = Lister::begun().take(recording, out, first);
+    finish(listed.lister, out, listed.at)
 }

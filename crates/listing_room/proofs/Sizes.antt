@@ -6,6 +6,7 @@ use mathlib.Core.List.{List}
 use lib.Dec.{eqb}
 use native.Mathlib.Omega.{arith}
 use borrow.Author.Tests.{eqb-true}
+use Rattle.std.specs.Prelude.{Option, None, Some}
 use Rattle.kit.specs.Bytes.{Bytes}
 use Rattle.kit.proofs.Ladder.{decides_such}
 use Rattle.kit.proofs.Cases.{on}
@@ -25,8 +26,6 @@ use Rattle.picture.specs.Pictures.{count_of}
 use Rattle.hand.specs.Sets.{begun, set_for, joined}
 use Rattle.hand.specs.declared.Hand.{Hand}
 use Rattle.last_step.specs.LastSteps.{gap_from}
-use Rattle.last_step.specs.declared.Last.{Last}
-use Rattle.last_step.specs.declared.Last.TheVariants.{Never, Step}
 use Rattle.listener.specs.Answers.{Told}
 use Rattle.listener.specs.Listeners.{after_reading, heard_of, hear_of}
 use Rattle.listener.specs.declared.Listener.{Listener}
@@ -69,10 +68,10 @@ pub set-step : (hand : Hand) (step : ℕ) → (set_for hand step).step ≡ step
 unfolding set_for begun
 set-step hand step = on (eqb hand.step step) (λ e. rw e (eqb-true hand.step step e)) (λ e. rw e refl)
 
-gap-small : (last : Last) (step : ℕ) → gap_from last step < steps
+gap-small : (last : Option ℕ) (step : ℕ) → gap_from last step < steps
 unfolding gap_of
-gap-small Never step = omega arith
-gap-small (Step last) step = omega arith
+gap-small None step = omega arith
+gap-small (Some last) step = omega arith
 
 count_small : (table : List Slot) → count_of table ≤ slot_count
 unfolding count_of

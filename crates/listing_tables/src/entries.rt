@@ -34,6 +34,7 @@ fn put_none(page: &mut [u8], at: usize) -> usize
 }
 
 // A distance in metres, or `-` where it has no value.
+#[tactic(auto, using(crate::proofs::Words::distance_none))]
 fn put_distance(page: &mut [u8], at: usize, word: u16) -> usize
     requires { at + 9 ≤ length page.old }
     ensures { Paged 7 page.old at (distance_text word ++ (blank ∷ [])) page.new result }
@@ -56,6 +57,7 @@ fn put_system(page: &mut [u8], at: usize, country: u16, voltage: u8) -> usize
 }
 
 // What the second word of a condition says; `-` where the change distance has no value.
+#[tactic(auto, using(crate::proofs::Words::second_none))]
 fn put_second(body: Body, page: &mut [u8], at: usize) -> usize
     requires { at + 12 ≤ length page.old }
     ensures { Paged 10 page.old at (second_word body ++ (blank ∷ [])) page.new result }

@@ -15,10 +15,10 @@ impl ByteSet {
         }
     }
 
-    pub fn contains(&self, byte: u8) -> bool
-        ensures { result ≡ get_or self.now.flags byte false }
+    pub fn contains(&self, asked: u8) -> bool
+        ensures { result ≡ get_or self.now.flags asked false }
     {
-        self.flags[byte as usize]
+        self.flags[asked as usize]
     }
 
     pub fn insert(&mut self, byte: u8)

@@ -1,4 +1,3 @@
-pub mod Arrays
 pub mod Found
 pub mod Listed
 pub mod Searched

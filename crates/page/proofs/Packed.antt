@@ -13,7 +13,7 @@ use Rattle.text.proofs.Copies.{part_sets}
 use native.Mathlib.Nat.{add_comm, pow-suc, div-div-eq-div-mul}
 use native.Mathlib.Omega.{arith}
 use mir.Val.{bool_byte}
-use borrow.Author.Tests.{lt-ltb, le-ltb, le-leb, lt-leb, leb-true, leb-false}
+use borrow.Author.Tests.{le-leb, lt-leb, leb-true, leb-false}
 use Rattle.kit.proofs.Cases.{on}
 use Rattle.text.specs.Decimals.{digit, decimal}
 use Rattle.text.specs.Hexadecimals.{hex_digit, hexadecimal}
@@ -79,11 +79,6 @@ shift_made (suc j) (one_small {byte} {more} small s) p =
     let wide : 2 ^ (8 * suc j) ≡ 256 * 2 ^ (8 * j) = ap (λ e. 2 ^ e) eight ∙ pow-add 2 8 (8 * j) in
     ap (λ d. (byte + number_made more * 256) / d) wide
     ∙ (sym (div-div-eq-div-mul (byte + number_made more * 256) 256 (2 ^ (8 * j))) ∙ (ap (λ x. x / 2 ^ (8 * j)) high ∙ shift_made j s (omega arith)))
-
-small-drop : (j : ℕ) {l : List ℕ} → Small l → Small (drop j l)
-small-drop zero s = s
-small-drop (suc j) none_small = none_small
-small-drop (suc j) (one_small p s) = small-drop j s
 
 -- ---- the last so many digits of a number
 
@@ -201,15 +196,6 @@ flag-most false = omega arith
 pub before-most : (n : ℕ) → digits_before n ≤ 4
 unfolding digits_before
 before-most n = omega (arith, flag-most (leb 10 n), flag-most (leb 100 n), flag-most (leb 1000 n), flag-most (leb 10000 n))
-
--- as the code counts them
-pub flag : (test : Bool) → bool_byte test ≡ cond test 1 0
-flag true = refl
-flag false = refl
-
-pub before_flags : (n : ℕ) → bool_byte (leb 10 n) + bool_byte (leb 100 n) + bool_byte (leb 1000 n) + bool_byte (leb 10000 n) ≡ digits_before n
-unfolding digits_before
-before_flags n = rw (flag (leb 10 n), flag (leb 100 n), flag (leb 1000 n), flag (leb 10000 n))
 
 pub flags_fit : (test : Bool) → bool_byte test ≤ 1
 flags_fit true = omega arith
@@ -332,12 +318,6 @@ packed_first words s =
     sym (low-made (min (length words) 8) s (omega arith) ∙ take_all (min (length words) 8) (take 8 words) (omega arith))
 
 -- ---- digits in hexadecimal
-
-pub hex_flag : (d : ℕ) → 48 + d + bool_byte (leb 10 d) * 39 ≡ hex_digit d
-hex_flag d =
-    on (leb 10 d)
-    (λ e. rw (e, le-ltb d 10 (leb-true 10 d e)) (omega (arith, leb-true 10 d e)))
-    (λ e. rw (e, lt-ltb d 10 (leb-false 10 d e)) (omega arith))
 
 -- the two digits of a byte
 abbrev pub hex_pair : ℕ → List ℕ

@@ -1,5 +1,5 @@
 -- Laws of `Paged`: nothing, one run after another, a store of more bytes than are put, and a page that is copied into a buffer.
-use Prim.Native.Nat.{ℕ, ◌+◌, ◌-◌, ◌≤◌, min}
+use Prim.Native.Nat.{ℕ, ◌+◌, ◌≤◌, min}
 use mathlib.Core.Path.{◌≡◌, refl, sym, ap, ◌∙◌, subst}
 use mathlib.Core.Bool.{true, cond}
 use lib.Dec.{leb}
@@ -146,9 +146,6 @@ laid_as {w} {x} {y} {l} {m} {i} {j} {a} {b} {s} {t} put stored le laid =
 -- a page filled from its start, copied into a buffer as far as it is filled, pours what was put on the page
 pub paged_filled : {x : ℕ} {p l m : List ℕ} {page : List ℕ} {next at j : ℕ} {bytes : List ℕ} → Paged x p 0 bytes page next → Poured l at (take next page) m j → Poured l at bytes m j
 paged_filled put copied = poured_as (sym put.held) copied
-
-pub paged-poured : {x : ℕ} {p l m : List ℕ} {page : List ℕ} {next at j : ℕ} {bytes : List ℕ} → Paged x p 0 bytes page next → Poured l at (take (next - 0) page) m j → Poured l at bytes m j
-paged-poured {page = page} {next} put copied = let whole : next - 0 ≡ next = omega arith in paged_filled put (poured_as (ap (λ n. take n page) (sym whole)) copied)
 
 -- ---- one answer
 

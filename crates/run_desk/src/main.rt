@@ -12,7 +12,7 @@ use desk::Desk;
 use outcomes::{End, Progress};
 use program::Program;
 use streams::{Output, Source, System};
-use wire::Verdict;
+use wire::Refusal;
 
 fn main(rt: HostRuntime) {
     let system = System {
@@ -31,7 +31,7 @@ fn run(source: &Source, begun: Progress) {
         let mut bytes = [0u8; 65535];
         match source.read_call(None, &mut bytes) {
             Ok(Some(list)) => {
-                progress = system.went_on(progress, list.len() + 2);
+                progress = system.went_on(progress, frames::LENGTH + list.len());
                 if !take(system, &mut desk, list, lists) {
                     return;
                 }
@@ -55,8 +55,8 @@ fn take(system: System, desk: &mut Desk, list: &[u8], lists: u64) -> bool
     let answer = desk.accept(list);
     *desk = answer.desk;
     match answer.verdict {
-        Verdict::Accepted => show_table(system, answer.desk),
-        Verdict::Refused(number) => show_refused(system, number, lists),
+        Ok(()) => show_table(system, answer.desk),
+        Err(refusal) => show_refused(system, refusal, lists),
     }
 }
 
@@ -66,9 +66,9 @@ fn show_table(system: System, desk: Desk) -> bool {
     system.write(Output::Standard, &out)
 }
 
-fn show_refused(system: System, number: u8, lists: u64) -> bool {
+fn show_refused(system: System, refusal: Refusal, lists: u64) -> bool {
     let mut line = [0u8; 64];
-    let n = desk_output::put_refused(number, lists, &mut line, 0);
+    let n = desk_output::put_refused(u8::from(refusal), lists, &mut line, 0);
     system.write(Output::Errors, &line[..n])
 }
 

@@ -9,9 +9,6 @@ ghost use Rattle.signal_runs.specs.Runs.{updated_by, signal_lines};
 
 use signals::Signals;
 
-// The length of a call with no telegram.
-const NO_TELEGRAM: u16 = 0xFFFF;
-
 // The record after a call, and the place past its line.
 #[derive(Clone, Copy)]
 struct Spoken {
@@ -25,7 +22,7 @@ fn tell(signals: Signals, announced: u16, bytes: &[u8], lines: &mut [u8], at: us
     ensures { (result.signals ≡ (updated_by signals (announced, bytes.now)).signals)
         × Poured lines.old at (line_of (updated_by signals (announced, bytes.now))) lines.new result.at }
 {
-    let telegram = (announced != NO_TELEGRAM).then_some(bytes);
+    let telegram = (announced != frames::NO_TELEGRAM).then_some(bytes);
     let updated = signals_in_place::lend_and_update(signals, telegram);
     Spoken {
         signals: updated.signals,
@@ -43,7 +40,7 @@ pub fn read(input: &[u8], lines: &mut [u8]) -> usize
     let mut rest = input;
     let mut at: usize = 0;
     while !rest.is_empty() {
-        let Some(size) = frames::call_size(rest, Some(NO_TELEGRAM)) else {
+        let Some(size) = frames::call_size(rest, Some(frames::NO_TELEGRAM)) else {
             return signals_output::put_short(lines, at);
         };
         let told = tell(

@@ -56,7 +56,9 @@ impl System<'_> {
     // Where standard input is a file, the system says in files of its own how long it is and which place it is at.
     fn left_of_standard(self) -> io::Result<u64> {
         let metadata = self.rt.metadata("/proc/self/fd/0")?;
-        let mut file = self.rt.open_file(OpenOptions::new().read(true), "/proc/self/fdinfo/0")?;
+        let mut file = self
+            .rt
+            .open_file(OpenOptions::new().read(true), "/proc/self/fdinfo/0")?;
         let mut text = [0u8; 64];
         let n = file.read(&mut text)?;
         let from = place_in(&text[..n]).unwrap_or(u64::MAX);

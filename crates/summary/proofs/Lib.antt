@@ -4,3 +4,4 @@ pub mod Filling
 pub mod Room
 pub mod Steps
 pub mod Whole
+pub mod Held

@@ -19,19 +19,15 @@ use listener::Answer;
 use lister::Lister;
 use telegram::LENGTH;
 
-// Refusals have numbers up to 15.
-const NUMBERS: usize = 16;
-
-// How many packets carry a table.
-const PACKETS: usize = 5;
-
 // How many telegrams, tables and repeats there were; for each number how many telegrams were refused under it, and the place of the
-// first of them, counted from 1, or 0 where there was none. A count stays at the greatest number that it can hold.
+// first of them, counted from 1, or 0 where there was none. Refusals have numbers up to 15. A count stays at the greatest number that it
+// can hold.
 #[derive(Clone, Copy)]
 pub struct Tally {
     pub telegrams: u64,
     pub tables: u64,
     pub repeats: u64,
+    // two rows and no row of pairs: `put`, and the theorems of specs/, speak of each row
     pub refused: [u64; 16],
     pub first: [u64; 16],
 }
@@ -51,115 +47,61 @@ impl Tally {
     }
 
     // With one answer more.
+    #[tactic(auto, unfolding(crate::specs::Tallies::counted))]
     pub fn count(self, answer: Answer) -> Self
         ensures { result ≡ counted self (told_of answer) }
     {
-        let telegrams = one_more(self.telegrams);
-        let refused = self.refused;
-        let first = self.first;
+        let telegrams = self.telegrams.saturating_add(1);
         match answer {
             Answer::Refused(number) => refuse(self, number),
             Answer::Repeat => Tally {
                 telegrams,
-                tables: self.tables,
-                repeats: one_more(self.repeats),
-                refused,
-                first,
+                repeats: self.repeats.saturating_add(1),
+                ..self
             },
-            Answer::Held => Tally {
-                telegrams,
-                tables: self.tables,
-                repeats: self.repeats,
-                refused,
-                first,
-            },
+            Answer::Held => Tally { telegrams, ..self },
             Answer::Taken { .. } => Tally {
                 telegrams,
-                tables: one_more(self.tables),
-                repeats: self.repeats,
-                refused,
-                first,
+                tables: self.tables.saturating_add(1),
+                ..self
             },
         }
     }
 
-    // With the telegrams that become whole with this piece. `lister` is the state before the piece.
+    // With the telegrams that become whole with this piece: first the one in hand, then those that lie whole in the piece. `lister` is the
+    // state before the piece.
     pub fn take(self, lister: Lister, piece: &[u8]) -> Self
         requires { MadeByPieces lister }
         ensures { result ≡ counted_piece self lister piece.now }
     {
-        let listener = lister.listener;
-        let mut telegram = lister.tail;
-        let mut memory = listener::memory_of(listener);
-        let mut tally = self;
-        let mut kept = lister.kept;
-        let mut from: usize = 0;
-        while LENGTH - kept <= piece.len() - from {
-            let end = from + (LENGTH - kept);
-            text::put_words(&mut telegram, kept, &piece[from..end]);
-            tally = hear_next(tally, &mut memory, &telegram);
-            kept = 0;
-            from = end;
+        let Some((end, rest)) = piece.split_at_checked(LENGTH - lister.kept) else {
+            return self;
+        };
+        let mut memory = listener::memory_of(lister.listener);
+        let mut first = lister.tail;
+        text::put_words(&mut first, lister.kept, end);
+        let mut tally = self.count(lister::hear_in(&mut memory, &first));
+        for telegram in rest.chunks_exact(LENGTH) {
+            tally = tally.count(lister::hear_in(&mut memory, telegram));
         }
         tally
     }
 }
 
-// One more.
-fn one_more(count: u64) -> u64
-    ensures { result ≡ one_more count }
-{
-    if count == u64::MAX {
-        return u64::MAX;
-    }
-    count + 1
-}
-
-// The place that is known, or where none is this one.
-fn first_or(first: u64, place: u64) -> u64
-    ensures { result ≡ known_or first place }
-{
-    if first == 0 {
-        return place;
-    }
-    first
-}
-
 // With one telegram more, which was refused under this number. The listener gives none above 15.
-fn refuse(tally: Tally, number: u8) -> Tally
+#[tactic(auto, unfolding(crate::specs::Tallies::counted))]
+fn refuse(mut tally: Tally, number: u8) -> Tally
     ensures { result ≡ counted tally (refused_as number) }
 {
-    let place = one_more(tally.telegrams);
-    let mut refused = tally.refused;
-    let mut first = tally.first;
+    tally.telegrams = tally.telegrams.saturating_add(1);
     let n = number as usize;
-    if n < NUMBERS {
-        refused[n] = one_more(refused[n]);
-        first[n] = first_or(first[n], place);
-        return Tally {
-            telegrams: place,
-            tables: tally.tables,
-            repeats: tally.repeats,
-            refused,
-            first,
-        };
+    if n < tally.refused.len() {
+        tally.refused[n] = tally.refused[n].saturating_add(1);
+        if tally.first[n] == 0 {
+            tally.first[n] = tally.telegrams;
+        }
     }
-    Tally {
-        telegrams: place,
-        tables: tally.tables,
-        repeats: tally.repeats,
-        refused,
-        first,
-    }
-}
-
-// Hears one telegram in lent memory, and counts the answer.
-fn hear_next(tally: Tally, memory: &mut [u8; 310], telegram: &[u8]) -> Tally
-    ensures { (result ≡ counted tally (heard_by (listener_in memory.old) telegram.now).told)
-        × (listener_in memory.new ≡ (heard_by (listener_in memory.old) telegram.now).listener) }
-{
-    let answer = lister::hear_in(memory, telegram);
-    tally.count(answer)
+    tally
 }
 
 // Words, and a number after them.
@@ -179,12 +121,12 @@ fn put_count(word: &[u8], count: u64, out: &mut [u8], at: usize) -> usize
 }
 
 // How many telegrams, tables and repeats.
-fn put_counts(telegrams: u64, tables: u64, repeats: u64, out: &mut [u8], at: usize) -> usize
-    ensures { Poured out.old at (count_lines telegrams tables repeats) out.new result }
+fn put_counts(tally: &Tally, out: &mut [u8], at: usize) -> usize
+    ensures { Poured out.old at (count_lines tally.now.telegrams tally.now.tables tally.now.repeats) out.new result }
 {
-    let second = put_count(b"telegrams ", telegrams, out, at);
-    let third = put_count(b"tables ", tables, out, second);
-    put_count(b"repeats ", repeats, out, third)
+    let second = put_count(b"telegrams ", tally.telegrams, out, at);
+    let third = put_count(b"tables ", tally.tables, out, second);
+    put_count(b"repeats ", tally.repeats, out, third)
 }
 
 // `refused R: N, first at telegram P`.
@@ -198,61 +140,47 @@ fn put_refused(number: u64, count: u64, place: u64, out: &mut [u8], at: usize) -
 }
 
 // That line where some are refused under the number.
+#[tactic(auto, unfolding(crate::specs::Summaries::refusal_part))]
 fn put_refusal(number: u64, count: u64, place: u64, out: &mut [u8], at: usize) -> usize
     ensures { Poured out.old at (refusal_part number count place) out.new result }
 {
     if count == 0 {
-        return text::put_words(out, at, b"");
+        at.min(out.len())
+    } else {
+        put_refused(number, count, place, out, at)
     }
-    put_refused(number, count, place, out, at)
 }
 
 // For each number, ascending.
-fn put_refusals(refused: [u64; 16], first: [u64; 16], out: &mut [u8], at: usize) -> usize
-    ensures { Poured out.old at (refusal_parts refused first) out.new result }
+fn put_refusals(tally: &Tally, out: &mut [u8], at: usize) -> usize
+    ensures { Poured out.old at (refusal_parts tally.now.refused tally.now.first) out.new result }
 {
-    let mut next = text::put_words(out, at, b"");
-    let mut number: usize = 0;
-    while number < NUMBERS {
-        next = put_refusal(number as u64, refused[number], first[number], out, next);
-        number += 1;
+    let mut next = at.min(out.len());
+    for (number, count) in tally.refused.iter().enumerate() {
+        next = put_refusal(number as u64, *count, tally.first[number], out, next);
     }
     next
 }
 
-// Whether a packet is held.
-fn is_begun(held: [bool; 5]) -> bool
-    ensures { result ≡ any (packet_held held) 0 packets }
-{
-    let mut k: usize = 0;
-    while k < PACKETS {
-        if held[k] {
-            return true;
-        }
-        k += 1;
-    }
-    false
-}
-
 // A packet that is held, after a blank.
-fn put_packet(held: bool, packet: u64, out: &mut [u8], at: usize) -> usize
-    ensures { Poured out.old at (packet_part held packet) out.new result }
+#[tactic(auto, unfolding(crate::specs::Summaries::packet_part))]
+fn put_packet(is_held: bool, packet: u64, out: &mut [u8], at: usize) -> usize
+    ensures { Poured out.old at (packet_part is_held packet) out.new result }
 {
-    if held {
-        return put_numbered(b" ", packet, out, at);
+    if is_held {
+        put_numbered(b" ", packet, out, at)
+    } else {
+        at.min(out.len())
     }
-    text::put_words(out, at, b"")
 }
 
 // The packets that are held, ascending.
 fn put_packets(held: [bool; 5], out: &mut [u8], at: usize) -> usize
     ensures { Poured out.old at (packet_parts held) out.new result }
 {
-    let mut next = text::put_words(out, at, b"");
-    let mut k: usize = 0;
-    while k < PACKETS {
-        next = put_packet(held[k], k as u64 + 3, out, next);
-        k += 1;
+    let mut next = at.min(out.len());
+    for (k, is_held) in held.iter().enumerate() {
+        next = put_packet(*is_held, k as u64 + 3, out, next);
     }
     next
 }
@@ -271,22 +199,24 @@ fn put_set(step: u16, held: [bool; 5], out: &mut [u8], at: usize) -> usize
 fn put_unfinished(hand: Hand, out: &mut [u8], at: usize) -> usize
     ensures { Poured out.old at (unfinished_part hand) out.new result }
 {
-    let held = hand.held;
-    if is_begun(held) {
-        return put_set(hand.step, held, out, at);
+    if hand.held.contains(&true) {
+        put_set(hand.step, hand.held, out, at)
+    } else {
+        at.min(out.len())
     }
-    text::put_words(out, at, b"")
 }
 
 // `tail of N bytes` where some are left.
+#[tactic(auto, unfolding(crate::specs::Summaries::tail_part))]
 fn put_tail(kept: usize, out: &mut [u8], at: usize) -> usize
     ensures { Poured out.old at (tail_part kept) out.new result }
 {
     if kept == 0 {
-        return text::put_words(out, at, b"");
+        at.min(out.len())
+    } else {
+        let next = put_numbered(b"tail of ", kept as u64, out, at);
+        text::put_words(out, next, b" bytes\n")
     }
-    let next = put_numbered(b"tail of ", kept as u64, out, at);
-    text::put_words(out, next, b" bytes\n")
 }
 
 // The text of a summary, of the counts and the state at the end of the input. What has no room before the buffer's end is dropped, and the
@@ -294,12 +224,8 @@ fn put_tail(kept: usize, out: &mut [u8], at: usize) -> usize
 pub fn put(tally: Tally, lister: Lister, out: &mut [u8], at: usize) -> usize
     ensures { Poured out.old at (summary_of tally lister) out.new result }
 {
-    let listener = lister.listener;
-    let hand = listener.hand;
-    let refused = tally.refused;
-    let first = tally.first;
-    let second = put_counts(tally.telegrams, tally.tables, tally.repeats, out, at);
-    let third = put_refusals(refused, first, out, second);
-    let fourth = put_unfinished(hand, out, third);
+    let second = put_counts(&tally, out, at);
+    let third = put_refusals(&tally, out, second);
+    let fourth = put_unfinished(lister.listener.hand, out, third);
     put_tail(lister.kept, out, fourth)
 }

@@ -3,13 +3,13 @@
 use Rattle.std.proofs.Common.{◌≡◌, ℕ, ◌≤◌, Bool, cond, eqb, sym, refl, ap, ◌∙◌, arith, eqb-true}
 use borrow.Author.Tests.{eqb-false}
 use Rattle.std.specs.Prelude.{Result, Ok, Err}
-use Rattle.std.specs.Result.{IsErrAnd}
+use Rattle.std.specs.Result.{IsErrAnd, IsOk}
 use Rattle.std.proofs.lemmas.Result.{err_from_is_err_and}
 use Rattle.kit.proofs.Cases.{on}
 use Rattle.wire.specs.Verdicts.{Verdict, Accepted, Refused, verdict_of, row_number, number_in, verdict_in}
 use Rattle.wire.specs.declared.refusals.Refusal.{Refusal}
 use Rattle.wire.specs.declared.refusals.Refusal.TheVariants as Refusal'
-use Rattle.wire.proofs.Answers.{verdict-accepted, verdict-refused, verdict-number-apart}
+use Rattle.wire.proofs.Answers.{verdict-accepted, verdict-refused, verdict-number-apart, accepted_or_refused}
 
 -- C-12: no row has the number 0, and no two rows have the same
 pub number-positive : (refusal : Refusal) → 1 ≤ row_number refusal
@@ -102,3 +102,8 @@ verdict_in-apart one other e =
 -- an answer with the verdict of a number has that number
 pub number_answered : {A : Type 0} (answer : Result A Refusal) (number : ℕ) → verdict_in answer ≡ verdict_of number → number_in answer ≡ number
 number_answered answer number e = verdict-number-apart (number_in answer) number (sym (verdict_by_number answer) ∙ e)
+
+-- an accepted answer is `Ok`
+pub accepted_ok : {A : Type 0} (answer : Result A Refusal) → verdict_in answer ≡ Accepted → IsOk answer
+accepted_ok (Ok value) e = refl
+accepted_ok (Err refusal) e = absurd (accepted_or_refused _ (sym e))

@@ -1,7 +1,8 @@
 -- `put_packet`: the telegram fills the 26 bytes, and they are put one after another.
 use Rattle.kit.proofs.Put.{poured_as}
 use mathlib.Core.Path.{sym, ◌∙◌, refl}
-use Rattle.telegram.proofs.Refusals.{packet_fills}
+use Rattle.wire.proofs.Results.{accepted_ok}
+use Rattle.telegram.proofs.Refusals.{packet-accepted, packet_fills}
 use Rattle.desk_output.proofs.put_packet.Goals as goal
 
 pub returns : goal.returns
@@ -10,3 +11,9 @@ returns c =
     let a = c.args in
     poured_as (sym (written ∙ packet_fills (record { packet = a.packet; step = a.step; slots = a.slots }) _ c.requires.0 c.requires.1 refl))
     c.put_words.ensures
+
+-- a packet from 3 to 7 is never refused
+pub unwrap-requires : goal.unwrap-requires
+unwrap-requires c =
+    let a = c.args in
+    accepted_ok _ (c.write.ensures.0 ∙ packet-accepted (record { packet = a.packet; step = a.step; slots = a.slots }) _ c.requires.0 c.requires.1 refl)

@@ -18,7 +18,7 @@ use Rattle.desk_runs.proofs.hand_over.Goals as goal
 pub loop-rest-init : goal.loop-rest-init
 unfolding run_tables refused_lines desk_at_end
 loop-rest-init c =
-    let desk = c.fresh-desk.ensures in
+    let desk = c.fresh.ensures in
     let input : List ℕ = c.args.input.now in (
       subst⁻¹ Made desk made_fresh,
       search rules,
@@ -32,9 +32,9 @@ returns-in_default c =
     let l = c.loop-rest in
     let rest : List ℕ = l.rest.now in
     let none = size_none (whole_size no_bare rest) c.in_default.ensures in (
-      sym (left-none l.desk rest (whole_size no_bare rest) refl none) ∙ l.invariant.4,
-      pouring_last (pouring_as (tables-none l.desk l.lists rest (whole_size no_bare rest) refl none) l.invariant.2),
-      pouring_end (pouring_as (lines-short l.desk l.lists rest (whole_size no_bare rest) refl none (search rules)) l.invariant.3) c.put_short-past.ensures,
+      sym (left-none l.taken.desk rest (whole_size no_bare rest) refl none) ∙ l.invariant.4,
+      pouring_last (pouring_as (tables-none l.taken.desk l.lists rest (whole_size no_bare rest) refl none) l.invariant.2),
+      pouring_end (pouring_as (lines-short l.taken.desk l.lists rest (whole_size no_bare rest) refl none (search rules)) l.invariant.3) c.put_short-taken.ensures,
     )
 
 pub take-taken-requires : goal.take-taken-requires
@@ -54,17 +54,17 @@ loop-rest-preserved c =
       subst Made desk (called l.invariant.0 _),
       omega (arith, l.invariant.1, ap length left, length-drop size rest, call_bounds no_bare rest c.in-Some.ensures),
       pouring_as (ap₂ tables_with desk left)
-          (pouring_more (pouring_as (tables_more l.desk l.lists rest size known.0 known.1) l.invariant.2) taken.ensures.1),
+          (pouring_more (pouring_as (tables_more l.taken.desk l.lists rest size known.0 known.1) l.invariant.2) taken.ensures.1),
       pouring_as (ap₂ (λ d r. refused_lines_with d (l.lists + 1) r) desk left)
-          (pouring_more (pouring_as (lines_more l.desk l.lists rest size known.0 known.1) l.invariant.3) taken.ensures.2),
-      ap₂ (λ d r. desk_from d (lists_of r)) taken.ensures.0 (part_to_end rest size) ∙ (sym (left-more l.desk rest size known.0 known.1) ∙ l.invariant.4),
+          (pouring_more (pouring_as (lines_more l.taken.desk l.lists rest size known.0 known.1) l.invariant.3) taken.ensures.2),
+      ap₂ (λ d r. desk_from d (lists_of r)) taken.ensures.0 (part_to_end rest size) ∙ (sym (left-more l.taken.desk rest size known.0 known.1) ∙ l.invariant.4),
     )
 
 pub returns : goal.returns
 returns c =
     let l = c.loop-rest in
     let end : length l.rest.now ≡ 0 = search rules in (
-      sym (left_end l.desk l.rest.now end) ∙ l.invariant.4,
-      pouring_last (pouring_as (tables_end l.desk l.lists l.rest.now end) l.invariant.2),
-      pouring_last (pouring_as (lines_end l.desk l.lists l.rest.now end) l.invariant.3),
+      sym (left_end l.taken.desk l.rest.now end) ∙ l.invariant.4,
+      pouring_last (pouring_as (tables_end l.taken.desk l.lists l.rest.now end) l.invariant.2),
+      pouring_last (pouring_as (lines_end l.taken.desk l.lists l.rest.now end) l.invariant.3),
     )

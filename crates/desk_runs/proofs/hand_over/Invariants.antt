@@ -9,11 +9,11 @@ use Rattle.desk_runs.specs.Runs.{lists_of, desk_from, tables_with, refused_lines
 use Rattle.desk_runs.proofs.hand_over.Given as goal
 
 abbrev pub invariant-loop-rest : goal.invariant-loop-rest
-invariant-loop-rest l = Made l.desk
+invariant-loop-rest l = Made l.taken.desk
     × (l.lists + length l.rest ≤ length l.input)
-    × Pouring l.initial.tables (run_tables l.input) l.tables l.ran.tables (tables_with l.desk l.rest)
-    × Pouring l.initial.lines (refused_lines l.input) l.lines l.ran.lines (refused_lines_with l.desk l.lists l.rest)
-    × (desk_from l.desk (lists_of l.rest) ≡ desk_at_end l.input)
+    × Pouring l.initial.tables (run_tables l.input) l.tables l.taken.ran.tables (tables_with l.taken.desk l.rest)
+    × Pouring l.initial.lines (refused_lines l.input) l.lines l.taken.ran.lines (refused_lines_with l.taken.desk l.lists l.rest)
+    × (desk_from l.taken.desk (lists_of l.rest) ≡ desk_at_end l.input)
 
 abbrev pub decreases-loop-rest : goal.decreases-loop-rest
 decreases-loop-rest l = length l.rest

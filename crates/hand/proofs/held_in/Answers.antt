@@ -4,7 +4,7 @@ use mathlib.Core.Bool.{false}
 use lib.ListN.{get_or}
 use Rattle.telegram.specs.Tables.{packets}
 use Rattle.memory.specs.Memory.{held_from, is_set, flags_at}
-use Rattle.memory.proofs.Made.{made_each}
+use Rattle.kit.proofs.Arrays.{made_each}
 use borrow.Author.Rules.{rules}
 use Rattle.hand.proofs.held_in.Goals as goal
 
@@ -12,4 +12,4 @@ pub returns : goal.returns
 unfolding flags_at
 returns c =
     let memory = c.args.memory.now in
-    made_each _ (λ (i : ℕ). is_set (get_or memory (held_from + i) 0)) _ (λ i y q called. search rules) _ packets false c.from_fn.ensures.items
+    made_each _ _ (λ (i : ℕ). is_set (get_or memory (held_from + i) 0)) packets (λ i y q p k. search rules) _ false c.from_fn.ensures.items

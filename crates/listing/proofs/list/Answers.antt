@@ -20,11 +20,11 @@ listing-of recording room {first} begins ends =
     ∙ ap (λ (s : Lister). header_line ++ (piece_lines first recording ++ end_of s)) (sym ends))
 
 pub take-listed-requires : goal.take-listed-requires
-take-listed-requires c = subst⁻¹ MadeByPieces c.begun-lister.ensures made_begun
+take-listed-requires c = subst⁻¹ MadeByPieces c.begun.ensures made_begun
 
 pub returns : goal.returns
 returns c =
     let recording = c.args.recording.now in
     let room : length recording ≤ most_tables = search rules in
-    poured_as (listing-of recording room c.begun-lister.ensures c.take-listed.ensures.0)
+    poured_as (listing-of recording room c.begun.ensures c.take-listed.ensures.0)
     (poured-then c.put_header-first.ensures (poured-then c.take-listed.ensures.1 c.finish.ensures))

@@ -6,7 +6,7 @@ use lib.Seq.{ext_get_or}
 use native.Mathlib.Omega.{arith}
 use borrow.Author.Rules.{rules}
 use Rattle.order_list.specs.Lists.{order_at, numbers_of}
-use Rattle.order_list.proofs.Arrays.{made-at}
+use Rattle.kit.proofs.Arrays.{made-at}
 use Rattle.order_list.proofs.Listed.{numbers-long, number_at}
 use Rattle.order_list.proofs.numbers_of.Goals as goal
 

@@ -1,7 +1,7 @@
 -- `types_of`: the map gives each place's type.
 use Rattle.std.proofs.Common.{◌≡◌, length, rules}
 use Rattle.condition.specs.Slots.{coded_of}
-use Rattle.order_list.proofs.Arrays.{mapped-all}
+use Rattle.kit.proofs.Arrays.{mapped-all}
 use Rattle.places.specs.Places.{free_place}
 use Rattle.places.specs.declared.Place.{Place}
 use Rattle.orders.proofs.types_of.Goals as goal

@@ -2,7 +2,7 @@
 use borrow.Author.Rules.{rules}
 use lib.ListN.{length}
 use mathlib.Core.Path.{◌≡◌}
-use Rattle.order_list.proofs.Arrays.{mapped-all}
+use Rattle.kit.proofs.Arrays.{mapped-all}
 use Rattle.places.specs.Places.{free_place}
 use Rattle.places.specs.declared.Place.{Place}
 use Rattle.places.proofs.orders_of.Goals as goal

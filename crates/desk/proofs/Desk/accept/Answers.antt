@@ -1,11 +1,14 @@
 -- `Desk::accept`: by what `refusal_of` answered; an accepted list makes who ends and who stays, and then who is new.
 use Prim.Native.Nat.{ℕ, ◌<◌, ◌≤◌}
 use mathlib.Core.List.{List}
-use mathlib.Core.Path.{◌≡◌, refl, sym, ◌∙◌}
+use mathlib.Core.Path.{◌≡◌, refl, sym}
 use lib.ListN.{length}
+use native.Mathlib.Omega.{arith}
 use borrow.Author.Rules.{rules}
 use Rattle.wire.specs.Steps.{steps}
-use Rattle.wire.specs.Verdicts.{Accepted, Refused}
+use Rattle.wire.specs.Verdicts.{Accepted, Refused, row_number}
+use Rattle.wire.specs.declared.refusals.Refusal.{Refusal}
+use Rattle.wire.proofs.Results.{number-positive}
 use Rattle.order_list.specs.Lists.{order_count}
 use Rattle.orders.specs.Orders.{list_refusal}
 use Rattle.orders.proofs.Lists.{fair-length}
@@ -14,25 +17,20 @@ use Rattle.leaving.specs.Leaving.{remains_of}
 use Rattle.leaving.specs.declared.Remains.{Remains}
 use Rattle.arriving.specs.Arriving.{seated_all}
 use Rattle.arriving.specs.declared.Seats.{Seats}
-use Rattle.desk.specs.declared.Answer.{Answer}
 use Rattle.desk.specs.declared.Desk.{Desk}
-use Rattle.desk.specs.Desks.{base_rest, accept_of}
+use Rattle.desk.specs.Desks.{Answer, base_rest, accept_of}
 use Rattle.desk.specs.Steps.{next_step, step_of}
 use Rattle.desk.proofs.Making.{accepts, refuses, made-sound}
 use Rattle.desk.proofs.Desk.accept.Goals as goal
 
-abbrev refused : Desk → ℕ → Answer
-refused desk refusal = record { verdict = Refused refusal; desk = desk }
+module _ (desk : Desk) (list : List ℕ) where
+  refusing : (refusal : Refusal) → row_number refusal ≡ list_refusal desk.places list
+      → ◌≡◌ {A = Answer} (record { verdict = Refused (row_number refusal); desk = desk }) (accept_of base_rest desk list)
+  refusing refusal e = let one : 1 ≤ row_number refusal = number-positive refusal in rw e (sym (refuses base_rest desk list (λ z. omega (arith, one, e, z))))
 
-abbrev accepted : Desk → Answer
-accepted next = record { verdict = Accepted; desk = next }
-
-module _ (desk : Desk) (list : List ℕ) (refusal : ℕ) (e : refusal ≡ list_refusal desk.places list) where
-  refusing : (refusal ≡ 0 → ⊥) → refused desk refusal ≡ accept_of base_rest desk list
-  refusing n = rw e (sym (refuses base_rest desk list (λ z. n (e ∙ z))))
-
-  accepting : (next : Desk) → refusal ≡ 0 → next ≡ step_of base_rest desk list → accepted next ≡ accept_of base_rest desk list
-  accepting next z s = rw s (sym (accepts base_rest desk list (sym e ∙ z)))
+  accepting : (next : Desk) → list_refusal desk.places list ≡ 0 → next ≡ step_of base_rest desk list
+      → ◌≡◌ {A = Answer} (record { verdict = Accepted; desk = next }) (accept_of base_rest desk list)
+  accepting next z s = rw s (sym (accepts base_rest desk list z))
 
 stepped : (desk : Desk) (list : List ℕ) (left : Remains) (seats : Seats)
     → left ≡ remains_of list (order_count list) (next_step desk.step) desk.places desk.ended
@@ -41,8 +39,8 @@ stepped : (desk : Desk) (list : List ℕ) (left : Remains) (seats : Seats)
 unfolding step_of remains_of
 stepped desk list left seats e s = rw (s, e) refl
 
-pub returns-then-refusal-ne0 : goal.returns-then-refusal-ne0
-returns-then-refusal-ne0 c = let a = c.args in refusing a.self a.list.now _ c.refusal_of-refusal.ensures c.if-refusal-ne0.true
+pub returns-in-Err : goal.returns-in-Err
+returns-in-Err c = refusing c.args.self c.args.list.now c.in-Err.refusal c.in-Err.ensures
 
 pub overflow_add-step : goal.overflow_add-step
 overflow_add-step c =
@@ -51,12 +49,8 @@ overflow_add-step c =
 
 pub overflow_cast-n : goal.overflow_cast-n
 overflow_cast-n c =
-    let p : length c.args.list.now ≤ 200 =
-    fair-length c.args.self.places c.args.list.now (sym c.refusal_of-refusal.ensures ∙ c.if-refusal-ne0.false)
-    in search rules
+    let p : length c.args.list.now ≤ 200 = fair-length c.args.self.places c.args.list.now (sym c.in_default.ensures) in
+    search rules
 
 pub returns : goal.returns
-returns c =
-    let a = c.args in
-    accepting a.self a.list.now _ c.refusal_of-refusal.ensures _ c.if-refusal-ne0.false
-    (stepped a.self a.list.now _ _ c.leave-left.ensures c.seat_all-seats.ensures)
+returns c = accepting c.args.self c.args.list.now _ (sym c.in_default.ensures) (stepped c.args.self c.args.list.now _ _ c.leave.ensures c.seat_all-last.ensures)

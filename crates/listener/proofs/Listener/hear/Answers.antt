@@ -18,7 +18,7 @@ returns c =
       held = search rules;
       set = search rules;
     } in
-    ap (λ l. record { told = told_of c.hear_in-answer.result; listener = l }) c.listener_in-listener.ensures
+    ap (λ l. record { told = told_of c.hear_in-answer.result; listener = l }) c.listener_in.ensures
     ∙ (c.hear_in-answer.ensures.meant
     ∙ ap (λ l. hear_of carries l (read_of a.telegram.now))
     (ap listener_in c.memory_of-memory.ensures ∙ means-back a.self sized))

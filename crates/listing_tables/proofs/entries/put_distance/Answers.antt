@@ -3,12 +3,9 @@ use mathlib.Core.Path.{ap, sym}
 use native.Mathlib.Omega.{arith}
 use Rattle.text.specs.Words.{blank}
 use Rattle.listing_words.specs.Words.{number_then}
-use Rattle.page.proofs.Pages.{paged_as, paged-then, paged-most}
-use Rattle.listing_tables.proofs.Words.{distance_none, distance_signed}
+use Rattle.page.proofs.Pages.{paged_as, paged-then}
+use Rattle.listing_tables.proofs.Words.{distance_signed}
 use Rattle.listing_tables.proofs.entries.put_distance.Goals as goal
-
-pub returns-then-word-eq-NO_VALUE : goal.returns-then-word-eq-NO_VALUE
-returns-then-word-eq-NO_VALUE c = paged_as (distance_none _ c.if-word-eq-NO_VALUE.true) (paged-most (omega arith) c.put_none.ensures)
 
 pub returns-else-word-eq-NO_VALUE : goal.returns-else-word-eq-NO_VALUE
 returns-else-word-eq-NO_VALUE c =

@@ -1,7 +1,8 @@
--- An array that a closure made, where the closure stays as it is from call to call: what each element is.
+-- Arrays that a closure makes, one element after another, where a call of the closure leaves it as it was: by `array::from_fn`, and by an
+-- array's `map`.
 use Prim.Native.Nat.{ℕ, zero, suc, ◌+◌, ◌<◌, ◌≤◌}
 use mathlib.Core.Path.{◌≡◌, ap, sym, ◌∙◌, subst}
-use mathlib.Core.List.{List, map}
+use mathlib.Core.List.{List, [], ◌∷◌, map}
 use lib.Dec.{eqb}
 use lib.ListN.{length, get_or, length-map}
 use lib.Seq.{ext_get_or}
@@ -10,6 +11,8 @@ use borrow.Author.Tests.{eqb-true, eqb-false}
 use denote.Param.Members.{Mut, Called}
 use Rattle.std.specs.Array.{IsFromFnResult, IsFromFnResultFrom, IsMapOf, MapsFrom}
 use Rattle.kit.proofs.Cases.{on}
+use Rattle.kit.specs.Each.{each}
+use Rattle.kit.proofs.Each.{length-one-each, one-each_at}
 use Rattle.kit.proofs.Maps.{map_at}
 
 -- `array::from_fn`
@@ -25,6 +28,11 @@ module _ {F B : Type 0} (g : Mut F (ℕ × Unit {0}) B) (f : F) (of : ℕ → B)
 
   pub made-at : (ys : List B) (d : B) (j : ℕ) → IsFromFnResult g f ys m → j < m → get_or ys j d ≡ of j
   made-at ys d j made p = from ys d 0 m j (omega arith) made.each (omega arith) (omega arith)
+
+  pub made_each : (ys : List B) → B → IsFromFnResult g f ys m → ys ≡ each (λ i. of i ∷ []) 0 m
+  made_each ys d made =
+      ext_get_or d ys (each (λ i. of i ∷ []) 0 m) (made.long ∙ sym (length-one-each of m))
+      (λ k p. let inside : k < m = omega (arith, made.long) in made-at ys d k made inside ∙ sym (one-each_at of m d k inside))
 
 -- an array's `map`
 module _ {F A B : Type 0} (g : Mut F (A × Unit {0}) B) (f : F) (of : A → B) (tells : (x : A) (y : B) (q : F) → Called g f (x, tt) y q → (q ≡ f) × (y ≡ of x)) where
