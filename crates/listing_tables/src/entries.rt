@@ -118,9 +118,8 @@ pub fn put_entry(place: usize, slot: Slot, carried: bool, page: &mut [u8], at: u
         return at;
     }
     let coded = condition::coded_of(slot);
-    let body = slot.body;
-    let second = put_numbers(page, at, (place % 256) as u8, slot.number, coded.kind);
-    let third = put_both(coded.first, body, page, second);
+    let second = put_numbers(page, at, place as u8, slot.number, coded.kind);
+    let third = put_both(coded.first, slot.body, page, second);
     put_mark(page, third, carried)
 }
 
