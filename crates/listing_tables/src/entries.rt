@@ -57,7 +57,6 @@ fn put_system(page: &mut [u8], at: usize, country: u16, voltage: u8) -> usize
 }
 
 // What the second word of a condition says; `-` where the change distance has no value.
-#[tactic(auto, using(crate::proofs::Words::second_none))]
 fn put_second(body: Body, page: &mut [u8], at: usize) -> usize
     requires { at + 12 ≤ length page.old }
     ensures { Paged 10 page.old at (second_word body ++ (blank ∷ [])) page.new result }
