@@ -35,6 +35,7 @@ use Rattle.signals.specs.declared.Signals.{Signals}
 use Rattle.signals.proofs.Answers.{noted-apart, updating_apart}
 use Rattle.signals.proofs.Promises as train-promises
 use Rattle.claims.specs.Functions.{with_one, bytes_in}
+use Rattle.claims.proofs.Functions.{update_call}
 use Rattle.claims.specs.Demand1.{RefusedBy, Lists, Telegrams, TelegramsLent, TrainTelegrams, TrainTelegramsLent, Buffers, Demand1}
 
 -- what is proved of a verdict is proved of what it tells
@@ -100,11 +101,6 @@ module _ (signals : Signals) (telegram : List ℕ) where
   call_missed true number e = train-promises.refused-misses signals telegram number e
   call_missed false number e = (call_absent false refl).1
 
--- what the code takes is a call with a telegram or with none
-update_call : (signals : Signals) (call : Option (List ℕ)) → update_by signals call ≡ update_of signals (with_one call) (bytes_in call)
-update_call signals None = refl
-update_call signals (Some telegram) = refl
-
 train : TrainTelegrams
 train =
     record {
@@ -131,7 +127,7 @@ train_lent : TrainTelegramsLent
 train_lent =
     record {
       defined = λ M 𝓤 𝓛 mem run κs handed ghost answer other lasts others.
-          both_facts 𝓤 _ _ _ (λ p q. (noted-apart answer other (agree p.0 q.0), ap (λ after. (after, (tt, (tt, tt)))) (agree p.1 q.1)));
+          both_facts 𝓤 _ _ _ (λ p q. (noted-apart answer other (agree p.0 q.0), ap (λ after. (after, (tt, tt))) (agree p.1 q.1)));
       refused = λ M 𝓤 𝓛 mem run κs (held, (telegram, _)) ghost answer lasts.
           let call = option_copied telegram in
           let same = update_call held.now call in

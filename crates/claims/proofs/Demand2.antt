@@ -9,14 +9,17 @@ use lib.ListN.{length, get_or}
 use Rattle.kit.specs.Bytes.{Bytes, bit}
 use Rattle.kit.proofs.Cases.{given}
 use Rattle.wire.specs.Distances.{InRange, distance_word}
-use Rattle.wire.specs.Verdicts.{Accepted, ruling_of}
+use Rattle.wire.specs.Verdicts.{Accepted, ruling_of, verdict_in}
+use Rattle.std.specs.Prelude.{option_copied}
 use Rattle.wire.proofs.Answers.{ruling_apart}
+use Rattle.claims.specs.Functions.{with_one, bytes_in}
+use Rattle.claims.proofs.Functions.{update_call}
 use Rattle.wire.proofs.Metres.{word-said}
 use Rattle.condition.specs.Slots.{MayHold, settled, coded_of}
 use Rattle.condition.proofs.Coding.{coded-back}
 use Rattle.telegram.specs.Sendable.{slot_on, may_alter}
 use Rattle.telegram.specs.Tables.{table_slot}
-use Rattle.telegram.specs.Telegrams.{Reading, coded_at, telegram_of as meant, bytes_of, read_of, write_verdict, written}
+use Rattle.telegram.specs.Telegrams.{Reading, coded_at, telegram_of as meant, bytes_of, read_of, write_verdict, written, reading_in}
 use Rattle.telegram.proofs.Carried.{slot-carried}
 use Rattle.telegram.proofs.Refusals.{reading_accepted, accepted-written, accepted-asked, packet_fills}
 use Rattle.telegram.proofs.Valid.{length-read, slot_read, slot-meant, never_invalid, accepted-means, accepted_sendable}
@@ -81,15 +84,20 @@ call_shows signals telegram false accepted = absurd (absence_no_acceptance (sym 
 coded : AsDocument01Says
 coded =
     record {
-      writes = λ κs (desk, (packet, (buffer, _))) verdict lasts p made accepted.
-          subst⁻¹ (λ bytes. Codes (λ c. c) bytes (packet_of desk packet)) p.1 (written_codes desk packet buffer.now made (sym p.0 ∙ ruling_apart verdict Accepted accepted));
-      reads_so = λ κs (bytes, _) reading lasts p accepted.
-          subst⁻¹ (λ r. r.verdict ≡ Accepted → Codes settled bytes.now r.telegram) p (read_codes bytes.now) (ruling_apart reading.verdict Accepted accepted);
+      writes = λ κs (desk, (packet, (buffer, _))) answer lasts p made accepted.
+          subst⁻¹ (λ bytes. Codes (λ c. c) bytes (packet_of desk packet)) p.1 (written_codes desk packet buffer.now made (sym p.0 ∙ ruling_apart (verdict_in answer) Accepted accepted));
+      reads_so = λ κs (bytes, _) answer lasts p accepted.
+          subst⁻¹ (λ (r : Reading). r.verdict ≡ Accepted → Codes settled bytes.now r.telegram) p (read_codes bytes.now) (ruling_apart (reading_in answer).verdict Accepted accepted);
       distances = λ κs (word, _) distance lasts p. subst⁻¹ (λ d. word < 0x10000 → InRange d × (distance_word d ≡ word)) p (word-said word);
-      signals = λ κs (signals, (present, (telegram, _))) updated lasts p.
-          subst⁻¹ (λ (u : Updating). u.noted ≡ acceptance → Shows u.signals.states telegram.now) p (call_shows signals telegram.now present);
-      signals_lent = λ M 𝓤 𝓛 mem run κs (held, (present, (telegram, _))) ghost answer lasts.
-          fact_mono 𝓤 _ _ (λ p accepted. subst⁻¹ (λ (s : Signals). Shows s.states telegram.now) p.1 (call_shows held.now telegram.now present (sym p.0 ∙ accepted)));
+      signals = λ κs (signals, (telegram, _)) updated lasts p.
+          let call = option_copied telegram in
+          subst⁻¹ (λ (u : Updating). u.noted ≡ acceptance → Shows u.signals.states (bytes_in call)) (p ∙ update_call signals call) (call_shows signals (bytes_in call) (with_one call));
+      signals_lent = λ M 𝓤 𝓛 mem run κs (held, (telegram, _)) ghost answer lasts.
+          let call = option_copied telegram in
+          let same = update_call held.now call in
+          fact_mono 𝓤 _ _ (λ p accepted.
+          subst⁻¹ (λ (s : Signals). Shows s.states (bytes_in call)) (p.1 ∙ ap (λ (u : Updating). u.signals) same)
+          (call_shows held.now (bytes_in call) (with_one call) (sym (p.0 ∙ ap (λ (u : Updating). u.noted) same) ∙ accepted)));
     }
 
 -- what was written of a desk is read as it was
@@ -113,13 +121,13 @@ read_back : ReadBack
 unfolding packet_of
 read_back =
     record {
-      each_packet = λ κs (desk, (packet, (buffer, _))) verdict lasts p made accepted κs' (bytes, _) reading lasts' q same.
-          let back = q ∙ (ap read_of (same ∙ p.1) ∙ read-written desk packet buffer.now made (sym p.0 ∙ ruling_apart verdict Accepted accepted)) in
+      each_packet = λ κs (desk, (packet, (buffer, _))) answer lasts p made accepted κs' (bytes, _) read lasts' q same.
+          let back = q ∙ (ap read_of (same ∙ p.1) ∙ read-written desk packet buffer.now made (sym p.0 ∙ ruling_apart (verdict_in answer) Accepted accepted)) in
           (ap (λ (r : Reading). ruling_of r.verdict) back, ap (λ (r : Reading). r.telegram) back);
       table = λ κs (desk, _) table lasts p i below. (slot-carried (table_of desk) i below).1 ∙ ap (λ t. table_slot t i) (sym p);
-      again = λ κs (bytes, _) reading lasts p fits accepted κs' (telegram, (buffer, _)) verdict lasts' q same long i b below.
-          ap (λ l. bit b (get_or l i 0)) (q.1 ∙ ap (λ t. written t buffer.now) (same ∙ ap (λ r. r.telegram) p))
-          ∙ written-again bytes.now buffer.now fits (sym (ap (λ r. r.verdict) p) ∙ ruling_apart reading.verdict Accepted accepted) long i b below;
+      again = λ κs (bytes, _) read lasts p fits accepted κs' (telegram, (buffer, _)) answer lasts' q same long i b below.
+          ap (λ l. bit b (get_or l i 0)) (q.1 ∙ ap (λ t. written t buffer.now) (same ∙ ap (λ (r : Reading). r.telegram) p))
+          ∙ written-again bytes.now buffer.now fits (sym (ap (λ (r : Reading). r.verdict) p) ∙ ruling_apart (reading_in read).verdict Accepted accepted) long i b below;
     }
 
 -- ---- what is shown
@@ -130,10 +138,13 @@ unfolding record_after
 reader =
     record {
       signals_begin = λ κs handed signals lasts p. p;
-      updates = λ earlier κs (signals, (present, (telegram, _))) updated lasts p before.
-          ap (λ (u : Updating). u.signals) p ∙ ap (λ (s : Signals). (update_of s present telegram.now).signals) before;
-      updates_lent = λ earlier M 𝓤 𝓛 mem run κs (held, (present, (telegram, _))) ghost answer lasts.
-          fact_mono 𝓤 _ _ (λ p before. p.1 ∙ ap (λ (s : Signals). (update_of s present telegram.now).signals) before);
+      updates = λ earlier κs (signals, (telegram, _)) updated lasts p before.
+          let call = option_copied telegram in
+          ap (λ (u : Updating). u.signals) (p ∙ update_call signals call) ∙ ap (λ (s : Signals). (update_of s (with_one call) (bytes_in call)).signals) before;
+      updates_lent = λ earlier M 𝓤 𝓛 mem run κs (held, (telegram, _)) ghost answer lasts.
+          let call = option_copied telegram in
+          fact_mono 𝓤 _ _ (λ p before.
+          p.1 ∙ (ap (λ (u : Updating). u.signals) (update_call held.now call) ∙ ap (λ (s : Signals). (update_of s (with_one call) (bytes_in call)).signals) before));
     }
 
 -- and so is the listener
@@ -155,7 +166,7 @@ same_record ((present, telegram) ∷ earlier) = ap (λ (s : Signals). (update_of
 valid : Valid
 valid =
     record {
-      read = λ κs (bytes, _) reading lasts p. subst⁻¹ (λ r. (k : ℕ) → MayHold (slot_on r.telegram k)) p (never_invalid bytes.now);
+      read = λ κs (bytes, _) read lasts p. subst⁻¹ (λ (r : Reading). (k : ℕ) → MayHold (slot_on r.telegram k)) p (never_invalid bytes.now);
       picture = picture-valid carries;
       signals = λ calls.
           subst⁻¹ (λ (s : Signals). (s.states ≡ silent) ⊎ ((t : List ℕ) × LastAccepted calls t × Shows s.states t)) (same_record calls) (shown-from calls);

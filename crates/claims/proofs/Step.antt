@@ -10,7 +10,7 @@ use native.Mathlib.Omega.{arith}
 use borrow.Author.Tests.{eqb-true, eqb-false, ltb-true, ltb-false}
 use Rattle.kit.proofs.Cases.{on, clash, given}
 use Rattle.kit.proofs.Member.{pigeonhole}
-use Rattle.wire.specs.Verdicts.{Accepted as passed, Refused, ruled_accepted, ruling_of}
+use Rattle.wire.specs.Verdicts.{Accepted as passed, Refused, ruled_accepted, ruling_of, verdict_in}
 use Rattle.wire.proofs.Answers.{ruling_apart, verdict-number}
 use Rattle.places.specs.Places.{free_place, place_at}
 use Rattle.places.proofs.Live.{live_when}
@@ -20,10 +20,9 @@ use Rattle.numbers.proofs.Search.{number-none, permitted-only}
 use Rattle.resting.specs.Rests.{is_resting}
 use Rattle.resting.specs.declared.Ended.{Ended}
 use Rattle.resting.proofs.Rested.{covers-resting}
-use Rattle.desk.specs.Desks.{base_rest as eight, fresh_with, accept_of, Made, called}
+use Rattle.desk.specs.Desks.{Answer, answer_in, base_rest as eight, fresh_with, accept_of, Made, called}
 use Rattle.desk.proofs.Runs.{desk_run, AllAccepted, EndedAgo}
 use Rattle.desk.specs.Steps.{step_of}
-use Rattle.desk.specs.declared.Answer.{Answer}
 use Rattle.desk.specs.declared.Desk.{Desk}
 use Rattle.desk.proofs.Making.{accepts, made-sound}
 use Rattle.desk.proofs.Promises as promises
@@ -152,7 +151,7 @@ step =
       goes_on = λ κs (desk, (list, _)) answer lasts p calls same.
           ap (λ (a : Answer). a.desk) p ∙ (ap (λ (d : Desk). (accept_of eight d list.now).desk) same ∙ one_call_more calls list.now);
       by_calls = λ desk. (made_calls, λ (calls, e). subst Made (sym e) (calls_made calls));
-      steps_so = λ κs (desk, (list, _)) answer lasts p calls same accepts-it. steps-one calls desk list.now answer p same (ruling_apart answer.verdict passed accepts-it);
+      steps_so = λ κs (desk, (list, _)) answer lasts p calls same accepts-it. steps-one calls desk list.now (answer_in answer) p same (ruling_apart (verdict_in answer.verdict) passed accepts-it);
       determined = λ calls list one other. alike calls (desk_after eight calls) list one other (made-sound (calls_made calls)).below;
       eight_tables = λ calls f number ended m i late soon. eight_tables calls f number ended m i late (omega arith);
       few_rest = λ calls numbers different rest_all. omega (arith, few_rest calls numbers different rest_all);
@@ -161,5 +160,5 @@ step =
           subst (λ (a : Answer). (ruling_of a.verdict ≡ ruled_accepted) × ((i : ℕ) → place_at a.desk.places i ≡ free_place)) (sym (p ∙ ap (accept_of eight desk) none))
           (ap ruling_of (promises.empty-accepted m), empties m);
       refused = λ κs (desk, (list, _)) answer lasts p number e.
-          ap (λ (a : Answer). a.desk) p ∙ promises.refused-unchanged desk list.now number (ap (λ (a : Answer). a.verdict) (sym p) ∙ ruling_apart answer.verdict (Refused number) e);
+          ap (λ (a : Answer). a.desk) p ∙ promises.refused-unchanged desk list.now number (ap (λ (a : Answer). a.verdict) (sym p) ∙ ruling_apart (verdict_in answer.verdict) (Refused number) e);
     }

@@ -1,3 +1,4 @@
+pub mod Answers
 pub mod Arrivals
 pub mod Endings
 pub mod Making

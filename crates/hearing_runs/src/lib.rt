@@ -4,19 +4,7 @@
 
 ghost use Rattle.std.specs.Prelude.{◌≡◌};
 ghost use Rattle.kit.specs.Put.{Poured};
-ghost use Rattle.listener.specs.Lent.{listener_in};
-ghost use Rattle.listing_tables.specs.Tables.{heard_lines};
-ghost use Rattle.lister.specs.Hearings.{heard_by};
 ghost use Rattle.hearing_runs.specs.Runs.{lines_heard};
-
-// Hears one telegram in lent memory, and puts its lines.
-fn hear_next(memory: &mut [u8; 310], telegram: &[u8], lines: &mut [u8], at: usize) -> usize
-    ensures { (listener_in memory.new ≡ (heard_by (listener_in memory.old) telegram.now).listener)
-        × Poured lines.old at (heard_lines (heard_by (listener_in memory.old) telegram.now)) lines.new result }
-{
-    let answer = listener::hear_in(memory, telegram);
-    listing_tables::put_heard(answer, memory, lines, at)
-}
 
 // The lines of all telegrams, heard by a fresh listener, and `short telegram` where the input ends inside one; the answer is the place
 // past them. What has no room before the buffer's end is dropped.
@@ -31,7 +19,8 @@ pub fn hear(input: &[u8], lines: &mut [u8]) -> usize
         let Some(size) = frames::call_size(rest, None) else {
             return text::put_words(lines, at, b"short telegram\n");
         };
-        at = hear_next(&mut memory, &rest[frames::LENGTH..size], lines, at);
+        let answer = listener::hear_in(&mut memory, &rest[frames::LENGTH..size]);
+        at = listing_tables::put_heard(answer, &memory, lines, at);
         rest = &rest[size..];
     }
     at

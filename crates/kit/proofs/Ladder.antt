@@ -73,20 +73,35 @@ module _ {A : Type 0} where
   silent-all rows k zero s = tt
   silent-all rows k (suc n) s = silent-join (rows k) (each rows (k + 1) n) (s k (omega arith) (omega arith)) (silent-all rows (k + 1) n (λ i p q. s i (omega arith) (omega arith)))
 
+-- what is so of each row's number, of ladders one above another
+module _ (Such : ℕ → Type 0) where
+  pub numbers_append : (upper lower : List (Bool × ℕ)) → Numbers Such upper → Numbers Such lower → Numbers Such (upper ++ lower)
+  numbers_append [] lower a b = b
+  numbers_append ((t, own) ∷ upper) lower (e, a) b = (e, numbers_append upper lower a b)
+
+  pub numbers-each : (rows : ℕ → List (Bool × ℕ)) → ((i : ℕ) → Numbers Such (rows i)) → (k n : ℕ) → Numbers Such (each rows k n)
+  unfolding each
+  numbers-each rows a k zero = tt
+  numbers-each rows a k (suc n) = numbers_append (rows k) (each rows (k + 1) n) (a k) (numbers-each rows a (k + 1) n)
+
 pub numbered_append : (upper lower : List (Bool × ℕ)) → Numbered upper → Numbered lower → Numbered (upper ++ lower)
-numbered_append [] lower a b = b
-numbered_append ((t, own) ∷ upper) lower (e, a) b = (e, numbered_append upper lower a b)
+numbered_append = numbers_append (λ n. 1 ≤ n)
 
 pub numbered-each : (rows : ℕ → List (Bool × ℕ)) → ((i : ℕ) → Numbered (rows i)) → (k n : ℕ) → Numbered (each rows k n)
-unfolding each
-numbered-each rows a k zero = tt
-numbered-each rows a k (suc n) = numbered_append (rows k) (each rows (k + 1) n) (a k) (numbered-each rows a (k + 1) n)
+numbered-each = numbers-each (λ n. 1 ≤ n)
 
 -- what is so of each row's number is so of the answer
 pub decides_such : (Such : ℕ → Type 0) (rows : List (Bool × ℕ)) (n : ℕ) → Numbers Such rows → Decides rows n → Such n
 decides_such Such [] n a d = absurd d
 decides_such Such ((t, own) ∷ rows) n (p, a) (inl (e, same)) = subst Such same p
 decides_such Such ((t, own) ∷ rows) n (p, a) (inr (e, d)) = decides_such Such rows n a d
+
+-- and so is what stands for no row, if that is such
+pub ladder_such : (Such : ℕ → Type 0) (rows : List (Bool × ℕ)) → Numbers Such rows → Such 0 → Such (ladder 0 rows)
+unfolding ladder
+ladder_such Such [] a none = none
+ladder_such Such ((true, own) ∷ rows) (p, a) none = p
+ladder_such Such ((false, own) ∷ rows) (p, a) none = ladder_such Such rows a none
 
 pub decides_positive : (rows : List (Bool × ℕ)) (n : ℕ) → Numbered rows → Decides rows n → 1 ≤ n
 decides_positive = decides_such (λ n. 1 ≤ n)

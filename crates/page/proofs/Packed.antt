@@ -13,7 +13,7 @@ use Rattle.text.proofs.Copies.{part_sets}
 use native.Mathlib.Nat.{add_comm, pow-suc, div-div-eq-div-mul}
 use native.Mathlib.Omega.{arith}
 use mir.Val.{bool_byte}
-use borrow.Author.Tests.{lt-ltb, le-ltb, le-leb, lt-leb, leb-true, leb-false}
+use borrow.Author.Tests.{le-leb, lt-leb, leb-true, leb-false}
 use Rattle.kit.proofs.Cases.{on}
 use Rattle.text.specs.Decimals.{digit, decimal}
 use Rattle.text.specs.Hexadecimals.{hex_digit, hexadecimal}

@@ -11,13 +11,9 @@ ghost use Rattle.signals.specs.Answers.{noted_of, updating_of};
 ghost use Rattle.signals_output.specs.Lines.{answer_words, misses_word, national_word, state_words, line_of, short_call_line};
 
 use signals::{Answer, Updated};
+use text::{BLANK, LINE_FEED};
 use train_codes::Isolation;
 use train_telegram::States;
-
-// Each word after the first has a blank before it.
-const BLANK: u8 = b' ';
-
-const LINE_FEED: u8 = b'\n';
 
 fn put_answer(answer: Answer, page: &mut [u8], at: usize) -> usize
     requires { at + 16 ≤ length page.old }

@@ -5,9 +5,8 @@ ghost use Rattle.page.specs.Words.{bytes_of_word};
 ghost use Rattle.state_words.specs.Words.{cab_word, brake_word, isolation_word, traction_word};
 
 use page::Word;
+use text::BLANK;
 use train_codes::{Brake, Cab, Isolation, Traction};
-
-const BLANK: u8 = b' ';
 
 #[tactic(auto, unfolding(page::specs::Words::bytes_of_word, page::specs::Words::packed_word, page::specs::Packed::number_made, page::specs::Packed::low_bytes))]
 pub fn cab_word(cab: Cab) -> Word

