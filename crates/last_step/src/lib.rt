@@ -32,7 +32,7 @@ pub fn last_in(memory: &[u8; 310]) -> Option<u16>
     if memory[LAST] == 0 {
         None
     } else {
-        Some(wire::word(memory[LAST + 1], memory[LAST + 2]))
+        Some(wire::word_at(memory, LAST + 1))
     }
 }
 

@@ -82,7 +82,8 @@ fn count_piece(tally: Option<Tally>, lister: Lister, piece: &[u8]) -> Option<Tal
     tally.map(|tally| tally.take(lister, piece))
 }
 
-// Puts the header, all of it: the buffer has the size for which that is proved (listing_room/specs/Rooms.antt).
+// Puts the header, all of it: the buffer has the size for which that is proved (listing_room/specs/Rooms.antt). That the sizes are asked for
+// here and below, and stand in no array type, has each number in one place, there.
 fn put_header(out: &mut [u8]) -> usize
     requires { length out.old ≡ header_room }
     ensures { Put out.old 0 header_line out.new result }

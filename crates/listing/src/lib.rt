@@ -5,6 +5,7 @@ ghost use Rattle.kit.specs.Put.{Poured};
 ghost use Rattle.listing.specs.Listings.{tail_line, listing, end_of};
 
 use lister::Lister;
+use wire::Refusal;
 
 // A line for a short tail.
 #[tactic(auto, unfolding(crate::specs::Listings::tail_line))]
@@ -14,7 +15,7 @@ fn put_tail(kept: usize, out: &mut [u8], at: usize) -> usize
     if kept == 0 {
         at.min(out.len())
     } else {
-        listing_lines::put_refused(10, out, at)
+        listing_lines::put_refused(u8::from(Refusal::Length), out, at)
     }
 }
 

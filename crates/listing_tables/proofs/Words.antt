@@ -1,11 +1,10 @@
 -- Words with the byte after them, as the code puts them.
-use Prim.Native.Nat.{ℕ, ◌-◌, ◌%◌, ◌<◌}
-use mathlib.Core.Path.{◌≡◌, refl, sym, ap, ◌∙◌}
+use Prim.Native.Nat.{ℕ, ◌-◌}
+use mathlib.Core.Path.{◌≡◌, refl, sym, ap}
 use mathlib.Core.Bool.{cond}
 use mathlib.Core.Logic.{◌⊎◌, inl, inr}
 use mathlib.Core.List.{[], ◌∷◌, ◌++◌, append_assoc}
 use lib.Dec.{ltb, leb}
-use native.Mathlib.Omega.{arith}
 use borrow.Author.Tests.{eq-eqb, ne_eqb, le-leb, lt-leb, ltb-true, ltb-false}
 use Rattle.kit.proofs.Cases.{on}
 use Rattle.wire.specs.Distances.{no_value, distance_of}
@@ -52,10 +51,7 @@ module _ (body : Body) (change : ℕ) (other : change ≡ no_value → ⊥) wher
   second_limit own limit (inl (c, v, is)) e = cc
   second_limit own limit (inr (l, is)) e = let same : own ≡ change = cc in rw (e, same, ne_eqb change no_value other) refl
 
-pub numbers-then : (place : ℕ) (slot : Slot) (coded : Coded) → place < 256 → coded ≡ coded_of slot
-    → entry_numbers place slot ≡ number_then (place % 256) blank ++ (number_then slot.number blank ++ number_then coded.kind blank)
+pub numbers-then : (place : ℕ) (slot : Slot) (coded : Coded) → coded ≡ coded_of slot
+    → entry_numbers place slot ≡ number_then place blank ++ (number_then slot.number blank ++ number_then coded.kind blank)
 unfolding entry_numbers
-numbers-then place slot coded p e =
-    let small : place ≡ place % 256 = omega arith in
-    ap (λ n. number_then n blank ++ (number_then slot.number blank ++ number_then (coded_of slot).kind blank)) small
-    ∙ ap (λ (c : Coded). number_then (place % 256) blank ++ (number_then slot.number blank ++ number_then c.kind blank)) (sym e)
+numbers-then place slot coded e = ap (λ (c : Coded). number_then place blank ++ (number_then slot.number blank ++ number_then c.kind blank)) (sym e)

@@ -57,7 +57,6 @@ fn put_system(page: &mut [u8], at: usize, country: u16, voltage: u8) -> usize
 }
 
 // What the second word of a condition says; `-` where the change distance has no value.
-#[tactic(auto, using(crate::proofs::Words::second_none))]
 fn put_second(body: Body, page: &mut [u8], at: usize) -> usize
     requires { at + 12 ≤ length page.old }
     ensures { Paged 10 page.old at (second_word body ++ (blank ∷ [])) page.new result }
@@ -118,9 +117,8 @@ pub fn put_entry(place: usize, slot: Slot, carried: bool, page: &mut [u8], at: u
         return at;
     }
     let coded = condition::coded_of(slot);
-    let body = slot.body;
-    let second = put_numbers(page, at, (place % 256) as u8, slot.number, coded.kind);
-    let third = put_both(coded.first, body, page, second);
+    let second = put_numbers(page, at, place as u8, slot.number, coded.kind);
+    let third = put_both(coded.first, slot.body, page, second);
     put_mark(page, third, carried)
 }
 

@@ -1,4 +1,5 @@
 pub mod Carrying
+pub mod Heads
 pub mod Lent
 pub mod Seeing
 pub mod Sorting

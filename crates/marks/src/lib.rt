@@ -6,7 +6,7 @@ ghost use Rattle.kit.specs.Loops.{any};
 ghost use Rattle.condition.specs.Slots.{slot_count};
 ghost use Rattle.memory.specs.Memory.{kind_from, picture_in, set_in};
 ghost use Rattle.marks.specs.Marks.{marks_of};
-ghost use Rattle.marks.specs.Lent.{has_both, is_alike, is_there, all_there, IsHead, set_holds, Sorted, Seen};
+ghost use Rattle.marks.specs.Lent.{has_both, is_there, all_there, IsHead, set_holds, Sorted, Seen};
 
 use condition::SLOTS;
 use kinds::{CURRENT, TRACTION};
@@ -53,53 +53,22 @@ fn head_at(memory: &[u8; 310], at: usize) -> u32
     u32::from_le_bytes([memory[at], memory[at + 1], memory[at + 2], memory[at + 3]])
 }
 
-// Whether slot i of the set and slot i of the picture begin with the same three bytes: then they have one number and one type.
-#[tactic(auto, unfolding(crate::specs::Lent::is_alike))]
-fn is_alike(memory: &[u8; 310], i: usize) -> bool
-    requires { i < 20 }
-    ensures { result ≡ is_alike memory.now i }
-{
-    head_at(memory, SET + SLOT * i) % THREE_BYTES
-        == head_at(memory, PICTURE + SLOT * i) % THREE_BYTES
-}
-
-// Whether slot i of the set is occupied.
-fn is_occupied(memory: &[u8; 310], i: usize) -> bool
-    requires { i < 20 }
-    ensures { result ≡ set_holds memory.now i }
-{
-    head_at(memory, SET + SLOT * i) / 256 % 256 != 0
-}
-
-// Slot i is marked if it is occupied and begins as slot i of the picture does: most entries that are carried stand where they stood
-// before. An occupied one that does not is one of the others, which are looked up later. Each slot is put down as the next of them, and
-// only one that is gets counted. Both flags are always asked, since a branch that cannot be foretold costs more than the work that it
-// saves.
-fn sort_one(
-    memory: &[u8; 310],
-    i: usize,
-    marks: &mut [bool; 20],
-    others: &mut [usize; 20],
-    count: usize,
-) -> usize
-    requires { (i < 20) × Sorted memory.now i 0 count others.old marks.old }
-    ensures { Sorted memory.now (i + 1) 0 result others.new marks.new }
-{
-    let alike = is_alike(memory, i);
-    let occupied = is_occupied(memory, i);
-    marks[i] = alike & occupied;
-    others[count] = i;
-    count + usize::from(!alike & occupied)
-}
-
-// Each slot is sorted so. The answer is how many others there are.
+// Slot i is marked if it is occupied and begins with the same three bytes as slot i of the picture, and so with one number and one type:
+// most entries that are carried stand where they stood before. An occupied one that does not is one of the others, which are looked up
+// later. Each slot is put down as the next of them, and only one that is gets counted. Both flags are always asked, since a branch that
+// cannot be foretold costs more than the work that it saves. The answer is how many others there are.
 fn sort_out(memory: &[u8; 310], marks: &mut [bool; 20], others: &mut [usize; 20]) -> usize
-    requires { (length marks.old ≡ slot_count) × (length others.old ≡ slot_count) }
     ensures { Sorted memory.now slot_count 0 result others.new marks.new }
 {
     let mut count = 0;
     for i in 0..SLOTS {
-        count = sort_one(memory, i, marks, others, count);
+        let head = head_at(memory, SET + SLOT * i);
+        let before = head_at(memory, PICTURE + SLOT * i);
+        let alike = head % THREE_BYTES == before % THREE_BYTES;
+        let occupied = head / 0x100 % 0x100 != 0;
+        marks[i] = alike & occupied;
+        others[count] = i;
+        count += usize::from(!alike & occupied);
     }
     count
 }

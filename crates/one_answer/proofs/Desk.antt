@@ -4,6 +4,7 @@ use Rattle.kit.proofs.Cases.{given}
 use Rattle.kit.specs.Contracts.{OneAnswer}
 use Rattle.kit.proofs.Contracts.{agree, agree-poured}
 use Rattle.wire.proofs.Results.{number_in-apart, verdict_in-apart}
+use Rattle.desk.proofs.Answers.{answer_in-apart}
 use Rattle.order_list.proofs as order-list
 use Rattle.order_list.specs.contracts as order-list-contracts
 use Rattle.places.proofs as places
@@ -92,7 +93,7 @@ pub desk-fresh : OneAnswer desk-contracts.Desk.fresh.ended desk.Desk.fresh.Reads
 desk-fresh κs handed answer other lasts others p q = (agree p q, refl)
 
 pub desk-accept : OneAnswer desk-contracts.Desk.accept.ended desk.Desk.accept.Reads.Learnt
-desk-accept κs handed answer other lasts others p q = (agree p q, refl)
+desk-accept κs handed answer other lasts others p q = (answer_in-apart answer other (agree p q), refl)
 
 -- ---- desk_writer
 

@@ -49,6 +49,15 @@ memory-show κs handed answer other lasts others p q = (refl, ap (λ b. (b, tt))
 pub memory-put_marks : OneAnswer memory-contracts.put_marks.ended memory.put_marks.Reads.Learnt
 memory-put_marks κs handed answer other lasts others p q = (refl, ap (λ b. (b, (tt, tt))) (agree p q))
 
+pub memory-empty : OneAnswer memory-contracts.byte_set.ByteSet.empty.ended memory.byte_set.ByteSet.empty.Reads.Learnt
+memory-empty κs handed answer other lasts others p q = ((λ i. record { flags = agree p q i }), refl)
+
+pub memory-contains : OneAnswer memory-contracts.byte_set.ByteSet.contains.ended memory.byte_set.ByteSet.contains.Reads.Learnt
+memory-contains κs handed answer other lasts others p q = (agree p q, refl)
+
+pub memory-insert : OneAnswer memory-contracts.byte_set.ByteSet.insert.ended memory.byte_set.ByteSet.insert.Reads.Learnt
+memory-insert κs handed answer other lasts others p q = (refl, (λ i. (record { flags = agree p q i }, (tt, tt))))
+
 -- ---- last_step
 
 pub last_step-is_last : OneAnswer last_step-contracts.is_last.ended last_step.is_last.Reads.Learnt
@@ -70,6 +79,9 @@ last_step-put_last κs handed answer other lasts others p q = (refl, ap (λ b. (
 
 pub hand-begin : OneAnswer hand-contracts.begin.ended hand.begin.Reads.Learnt
 hand-begin κs handed answer other lasts others p q = (refl, ap (λ b. (b, (tt, tt))) (agree p q))
+
+pub hand-packet_in : OneAnswer hand-contracts.packet_in.ended hand.packet_in.Reads.Learnt
+hand-packet_in κs handed answer other lasts others p q = (agree p.0 q.0, refl)
 
 pub hand-step_of : OneAnswer hand-contracts.step_of.ended hand.step_of.Reads.Learnt
 hand-step_of κs handed answer other lasts others p q = (agree p q, refl)

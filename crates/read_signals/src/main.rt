@@ -60,7 +60,8 @@ fn show_line(system: System, updated: Updated) -> bool {
     system.write(Output::Standard, &line[..n])
 }
 
-// Puts the line on a call that is not whole, where the input has ended inside one; after a read that failed, nothing.
+// Puts the line on a call that is not whole, where the input has ended inside one; after a read that failed, nothing. One function for this
+// program and `run_desk` would be no shorter: it would be lent `put_short` of each as a closure, and a contract on what that puts.
 fn put_end(end: End, line: &mut [u8]) -> usize
     ensures { Poured line.old 0 (where_short end short_call_line) line.new result }
 {

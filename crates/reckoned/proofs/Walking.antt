@@ -22,9 +22,8 @@ use Rattle.resting.specs.Rests.{rests_by, is_resting}
 use Rattle.numbers.specs.Numbers.{has_number, next_number}
 use Rattle.leaving.specs.Leaving.{kept_among, ended_entry, ended_among}
 use Rattle.arriving.specs.Arriving.{seated, seated_all}
-use Rattle.desk.specs.Desks.{base_rest, fresh_with, accept_of}
+use Rattle.desk.specs.Desks.{Answer, base_rest, fresh_with, accept_of}
 use Rattle.desk.specs.Steps.{step_of}
-use Rattle.desk.specs.declared.Answer.{Answer}
 use Rattle.desk.specs.declared.Desk.{Desk}
 use Rattle.claims.specs.Calls.{desk_after, accepted, steps_made}
 use Rattle.reckoned.specs.Reckoned.{order_bytes, order_list, wholly_new, one_stays, empty_lists, step_and_numbers, numbers_from, alone, to_255}

@@ -12,7 +12,6 @@ use Rattle.telegram.specs.declared.Telegram.{Telegram}
 use Rattle.places.specs.declared.Place.{Place}
 use Rattle.desk.specs.Desks.{base_rest, fresh_desk, accept_of, table_of}
 use Rattle.claims.specs.Calls.{desk_after, steps_made}
-use Rattle.train_telegram.specs.States.{system_with}
 use Rattle.train_codes.specs.declared.Brake.{Brake}
 use Rattle.train_codes.specs.declared.Brake.TheVariants.{PassengerInP, Unknown}
 use Rattle.train_codes.specs.declared.Brake.TheVariants as Brake'
@@ -20,7 +19,7 @@ use Rattle.train_codes.specs.declared.Cab.{Cab}
 use Rattle.train_codes.specs.declared.Cab.TheVariants.{None, A}
 use Rattle.train_codes.specs.declared.Cab.TheVariants as Cab'
 use Rattle.train_codes.specs.declared.Isolation.TheVariants.{Isolated, NotIsolated}
-use Rattle.train_telegram.specs.declared.states.National.{National}
+use Rattle.train_codes.specs.declared.Isolation.{Isolation}
 use Rattle.signals.specs.Answers.{acceptance, Updating}
 use Rattle.train_codes.specs.Codes.{is_supported}
 use Rattle.train_codes.specs.declared.Traction.{Traction}
@@ -132,15 +131,15 @@ supported_in (Supported systems) = each (λ system. cond (is_supported systems s
 supported_in Silent = []
 
 -- accepted, with these states
-unfoldable pub showing : Cab → Brake → List National → ℕ → Updating
+unfoldable pub showing : Cab → Brake → List Isolation → ℕ → Updating
 showing cab brake national systems =
     record { noted = acceptance; signals = signals_with (record { cab = cab; brake = brake; national = national; traction = Supported systems }) 0 }
 
-abbrev pub isolated_system : National
-isolated_system = system_with Isolated
+abbrev pub isolated_system : Isolation
+isolated_system = Isolated
 
-abbrev pub not_isolated_system : National
-not_isolated_system = system_with NotIsolated
+abbrev pub not_isolated_system : Isolation
+not_isolated_system = NotIsolated
 
 -- ---- the table
 

@@ -72,7 +72,8 @@ fn show_refused(system: System, refusal: Refusal, lists: u64) -> bool {
     system.write(Output::Errors, &line[..n])
 }
 
-// Puts the line on a list that is not whole, where the input has ended inside one; after a read that failed, nothing.
+// Puts the line on a list that is not whole, where the input has ended inside one; after a read that failed, nothing. One function for this
+// program and `read_signals` would be no shorter: it would be lent `put_short` of each as a closure, and a contract on what that puts.
 fn put_end(end: End, line: &mut [u8]) -> usize
     ensures { Poured line.old 0 (where_short end short_list_line) line.new result }
 {

@@ -37,6 +37,7 @@ impl System<'_> {
     // that is not understood.
     pub fn answer(self, asked: Asked) {
         let mut word = [0u8; 4096];
+        // where no argument decided it, the word is the program's own name
         let at = asked.at.unwrap_or(0);
         match self.rt.arg(at, &mut word) {
             Ok(n) => self.say_answer(asked, &word[..n]),

@@ -27,7 +27,7 @@ pub struct Tally {
     pub telegrams: u64,
     pub tables: u64,
     pub repeats: u64,
-    // two rows and no row of pairs: `put`, and the theorems of specs/, speak of each row
+    // two rows, with 0 for no place: `tally_of` and `Countable` (specs/) say what each row is
     pub refused: [u64; 16],
     pub first: [u64; 16],
 }

@@ -4,7 +4,7 @@ use borrow.Author.Tests.{eqb-false}
 use Rattle.std.specs.Prelude.{Result, Ok, Err}
 use Rattle.kit.specs.Ladder.{ladder}
 use Rattle.kit.proofs.Cases.{on}
-use Rattle.wire.specs.Verdicts.{Verdict, Accepted, Refused, row_number, verdict_in}
+use Rattle.wire.specs.Verdicts.{Verdict, Accepted, Refused, number_of, row_number, verdict_in}
 use Rattle.wire.specs.declared.refusals.Refusal.{Refusal}
 use Rattle.wire.proofs.Answers.{accepted_or_refused}
 use Rattle.wire.proofs.Results.{number_apart, row_of, row-number, answer_with, answered_with}
@@ -12,17 +12,12 @@ use Rattle.telegram.specs.Telegrams.{Reading, read_rows, read_refusal, telegram_
 use Rattle.telegram.specs.declared.Telegram.{Telegram}
 use Rattle.telegram.proofs.Rows.{read_refused, read-accepted, read-most, write-most}
 
-number_under : Verdict → ℕ
-number_under Accepted = 0
-number_under (Refused number) = number
-
 -- C-12: no two answers tell the same
 pub reading_in-apart : (one other : Result Telegram Refusal) → reading_in one ≡ reading_in other → one ≡ other
-unfolding number_under
 reading_in-apart (Ok one) (Ok other) e = ap (λ (r : Reading). Ok r.telegram) e
 reading_in-apart (Ok one) (Err refusal) e = absurd (accepted_or_refused _ (ap (λ (r : Reading). r.verdict) e))
 reading_in-apart (Err refusal) (Ok other) e = absurd (accepted_or_refused _ (sym (ap (λ (r : Reading). r.verdict) e)))
-reading_in-apart (Err refusal) (Err other) e = ap Err (number_apart refusal other (ap (λ (r : Reading). number_under r.verdict) e))
+reading_in-apart (Err refusal) (Err other) e = ap Err (number_apart refusal other (ap (λ (r : Reading). number_of r.verdict) e))
 
 -- C-12: what any bytes read as is what an answer says
 pub read_answer : (bytes : List ℕ) → (answer : Result Telegram Refusal) × (reading_in answer ≡ read_of bytes)

@@ -6,15 +6,16 @@ use mathlib.Core.Logic.{◌↔◌}
 use mathlib.Core.Path.{◌≡◌, refl, sym, ap}
 use borrow.Author.Tests.{eq-eqb, ne_eqb}
 use Rattle.kit.specs.Ladder.{Decides, NoneHolds}
-use Rattle.std.specs.Prelude.{Ok, Err}
+use Rattle.std.specs.Prelude.{Result, Ok, Err}
 use Rattle.wire.specs.declared.refusals.Refusal.{Refusal}
-use Rattle.wire.specs.Verdicts.{row_number, Accepted, Refused}
-use Rattle.wire.proofs.Answers.{verdict-accepted, verdict-refused, verdict-number, refused_when, accepted_when}
-use Rattle.wire.proofs.Results.{number-positive}
+use Rattle.wire.specs.Verdicts.{row_number, number_of, Accepted, Refused}
+use Rattle.wire.proofs.Answers.{accepted_or_refused, verdict-accepted, verdict-refused, verdict-number, refused_when, accepted_when}
+use Rattle.wire.proofs.Results.{number-positive, number_apart}
 use Rattle.train_codes.specs.Refusals.{train_rows, train_refusal}
 use Rattle.train_codes.proofs.Rows.{train-numbered}
 use Rattle.train_telegram.specs.Readings.{Reading, reading_in, train_reading}
 use Rattle.train_telegram.specs.States.{states_of, silent}
+use Rattle.train_telegram.specs.declared.states.States.{States}
 
 -- the two ways of a reading: refused, with every signal silent beside it, or accepted
 module _ (t : List ℕ) (number : ℕ) (same : number ≡ train_refusal t) where
@@ -34,6 +35,13 @@ reading_refused_by t refusal same =
 
 pub reading_accepted_by : (t : List ℕ) → 0 ≡ train_refusal t → reading_in (Ok (states_of t)) ≡ train_reading t
 reading_accepted_by t same = sym (read-accepted t 0 same refl)
+
+-- C-12: no two answers tell the same
+pub reading_in-apart : (one other : Result States Refusal) → reading_in one ≡ reading_in other → one ≡ other
+reading_in-apart (Ok one) (Ok other) e = ap (λ (r : Reading). Ok r.states) e
+reading_in-apart (Ok one) (Err refusal) e = absurd (accepted_or_refused _ (ap (λ (r : Reading). r.verdict) e))
+reading_in-apart (Err refusal) (Ok other) e = absurd (accepted_or_refused _ (sym (ap (λ (r : Reading). r.verdict) e)))
+reading_in-apart (Err refusal) (Err other) e = ap Err (number_apart refusal other (ap (λ (r : Reading). number_of r.verdict) e))
 
 module _ (t : List ℕ) where
   pub reading_refused : (number : ℕ) → ((train_reading t).verdict ≡ Refused number) ↔ Decides (train_rows t) number

@@ -21,7 +21,7 @@ returns c =
     let coded = c.coded_of-coded in
     paged_as (entry_occupied _ _ _ (sym c.is_occupied.ensures ∙ c.if-not-is_occupied.false))
     (paged-then
-    (paged_as (numbers-then c.args.place c.args.slot coded.result c.requires.0 coded.ensures) c.put_numbers-second.ensures)
+    (paged_as (numbers-then c.args.place c.args.slot coded.result coded.ensures) c.put_numbers-second.ensures)
     (paged-then
     (paged_as (ap (λ (as-coded : Coded). distance_text as-coded.first ++ ((blank ∷ []) ++ (second_word c.args.slot.body ++ (blank ∷ [])))) (sym coded.ensures)) c.put_both-third.ensures)
     c.put_mark.ensures))

@@ -2,8 +2,11 @@
 use mathlib.Core.Path.{sym, ◌∙◌}
 use native.Mathlib.Omega.{arith}
 use Rattle.page.proofs.Pages.{paged_as, paged-most}
-use Rattle.listing_tables.proofs.Words.{second_system, second_limit}
+use Rattle.listing_tables.proofs.Words.{second_none, second_system, second_limit}
 use Rattle.listing_tables.proofs.entries.put_second.Goals as goal
+
+pub returns-in-Traction : goal.returns-in-Traction
+returns-in-Traction c = paged_as (second_none _ _ c.if-change.true c.in-Traction.is) (paged-most (omega arith) c.put_none.ensures)
 
 pub returns-in-Traction-2 : goal.returns-in-Traction-2
 returns-in-Traction-2 c = paged_as (second_system _ _ c.if-change.false _ _ _ c.in-Traction.is (sym c.in-Traction.body-is ∙ c.in-Traction-2.is)) c.put_system.ensures
