@@ -1,13 +1,9 @@
 -- `national_of`: system by system, each by the closure's call at its place.
-use Rattle.std.proofs.Common.{◌≡◌, ℕ, zero, suc, ◌+◌, ◌/◌, ◌%◌, ◌^◌, ◌<◌, ◌≤◌, eqb, List, get_or, sym, ap, ap₂, ◌∙◌, subst, rules, tests, arith, eqb-true}
+use Rattle.std.proofs.Common.{◌≡◌, ℕ, ◌+◌, ◌/◌, ◌%◌, ◌^◌, ◌<◌, eqb, sym, ap, ap₂, ◌∙◌, rules, tests, arith}
 use Rattle.std.proofs.Math.Seq.{ext_get_or}
-use Rattle.std.specs.Array.{IsFromFnResultFrom}
-use Rattle.std.specs.Fn.{Called, Mut}
-use borrow.Author.Tests.{eqb-false}
 use Rattle.kit.specs.Bytes.{bit}
 use Rattle.kit.proofs.Arrays.{made-at}
 use Rattle.kit.proofs.Bits.{bit-above}
-use Rattle.kit.proofs.Cases.{on}
 use Rattle.train_codes.specs.Codes.{isolation_of}
 use Rattle.train_codes.specs.declared.Isolation.TheVariants.{Silent}
 use Rattle.train_telegram.proofs.Showing.{national-long, national-at}
