@@ -7,21 +7,13 @@ use mathlib.Core.List.{List, [], ◌∷◌}
 use lib.Dec.{eqb, ltb}
 use lib.ListN.{length, take, drop, length-drop}
 use native.Mathlib.Omega.{arith}
-use borrow.Author.Tests.{eqb-true, eqb-false, leb-true, leb-false, le-leb, lt-leb, lt-ltb, le-ltb}
+use borrow.Author.Tests.{eqb-true, eqb-false, leb-true, leb-false, lt-leb, lt-ltb, le-ltb}
 use Rattle.std.specs.Prelude.{None, Some}
 use Rattle.kit.specs.Bytes.{word_at}
 use Rattle.kit.proofs.Cases.{on}
 use Rattle.frames.specs.Frames.{follows, size_of, is_whole_frame, whole_size, size_given, first_of, behind, framed_up_to, calls_of, left_up_to, left_of, is_short, short_tail}
 
 -- ---- the size of the first call
-
-pub size-whole : (bare : ℕ) (input : List ℕ) → size_of bare input ≤ length input → whole_size bare input ≡ size_of bare input
-unfolding whole_size is_whole_frame
-size-whole bare input h = rw (le-leb (size_of bare input) (length input) h) refl
-
-pub size-part : (bare : ℕ) (input : List ℕ) → length input < size_of bare input → whole_size bare input ≡ 0
-unfolding whole_size is_whole_frame
-size-part bare input h = rw (lt-leb (size_of bare input) (length input) h) refl
 
 pub size_two : (bare : ℕ) (input : List ℕ) → 2 ≤ size_of bare input
 unfolding size_of

@@ -40,8 +40,8 @@ fn missed(signals: Signals) -> Signals
 {
     if signals.misses < MISSES_MOST - 1 {
         Signals {
-            states: signals.states,
             misses: signals.misses + 1,
+            ..signals
         }
     } else {
         Signals {
@@ -68,21 +68,11 @@ impl Signals {
     pub fn update(self, telegram: Option<&[u8]>) -> Updated
         ensures { updating_of result ≡ update_by self (option_copied telegram.entry) }
     {
-        let Some(telegram) = telegram else {
-            return Updated {
-                answer: Answer::Missed,
-                signals: missed(self),
-            };
+        let (answer, signals) = match telegram.map(train_telegram::read) {
+            None => (Answer::Missed, missed(self)),
+            Some(Err(refusal)) => (Answer::Refused(refusal.into()), missed(self)),
+            Some(Ok(states)) => (Answer::Accepted, Signals { states, misses: 0 }),
         };
-        match train_telegram::read(telegram) {
-            Ok(states) => Updated {
-                answer: Answer::Accepted,
-                signals: Signals { states, misses: 0 },
-            },
-            Err(refusal) => Updated {
-                answer: Answer::Refused(refusal.into()),
-                signals: missed(self),
-            },
-        }
+        Updated { answer, signals }
     }
 }

@@ -1,4 +1,5 @@
-// What the program read_signals writes: a line for each call, and one where the input ends inside a call.
+// What the program read_signals writes: a line for each call, and one where the input ends inside a call. A page and a place on it are two
+// parameters here since they are so in `page`, whose functions each of these hands on to.
 #![tactic(auto)]
 
 mod words;

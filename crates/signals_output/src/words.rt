@@ -1,4 +1,5 @@
-// The words for the states of signals on a page, each with a blank before it.
+// The words for the states of signals on a page, each with a blank before it. Each stands in a call of its own, so that its bytes are packed
+// when this is compiled.
 ghost use Rattle.std.specs.Prelude.{◌≡◌, length, ◌+◌, ◌≤◌};
 ghost use Rattle.page.specs.Pages.{Paged};
 ghost use Rattle.page.specs.Words.{bytes_of_word};

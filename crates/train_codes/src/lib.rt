@@ -58,6 +58,7 @@ pub fn cab_of(a: bool, b: bool) -> Cab
     }
 }
 
+// The range is what document 01 calls invalid; the arm behind it is of the numbers that three bits do not have.
 #[tactic(auto, unfolding(crate::specs::Codes::brake_of, kit::specs::Ladder::ladder))]
 pub fn brake_of(number: u8) -> Brake
     ensures { result ≡ brake_of number }
