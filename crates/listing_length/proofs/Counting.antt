@@ -38,6 +38,11 @@ front-bytes l m bytes = subst Bytes (take_at l m (length l) refl) (take-bytes (l
 back-bytes : (l m : List ℕ) → Bytes (l ++ m) → Bytes m
 back-bytes l m bytes = subst Bytes (drop_at l m (length l) refl) (drop-bytes (length l) (l ++ m) bytes)
 
+-- the lines of a piece have room, whatever came before it
+piece_room_lem : (before piece : List ℕ) → Bytes (before ++ piece) → length piece ≤ piece_size → length (piece_lines (take_of begun_lister before) piece) ≤ piece_lines_room
+unfolding after_all
+piece_room_lem before piece fits small = omega (arith, piece_short (before ∷ []) (front-bytes before piece fits, tt) piece (back-bytes before piece fits), small)
+
 module _ {recording : List ℕ} where
   -- before any piece
   pub so_far-none : {lister : Lister} {bytes : ℕ} → lister ≡ begun_lister → bytes ≡ min (0 + length header_line) piece_lines_room → SoFar recording lister bytes recording
@@ -51,13 +56,11 @@ module _ {recording : List ℕ} where
   pub so_far-more : Bytes recording → {lister next : Lister} {bytes put sum : ℕ} {rest : List ℕ} (piece more : List ℕ) → SoFar recording lister bytes rest → rest ≡ piece ++ more
       → length piece ≤ piece_size → next ≡ take_of lister piece → put ≡ min (0 + length (piece_lines lister piece)) piece_lines_room → sum ≡ min (bytes + put) most_length
       → SoFar recording next sum more
-  unfolding after_all
   so_far-more fits {lister} {next} {bytes} {put} {sum} {rest} piece more s rests small takes puts sums =
       let before = s.before in
       let cut : recording ≡ (before ++ piece) ++ more = s.cut ∙ (ap (λ l. before ++ l) rests ∙ sym (append_assoc before piece more)) in
       let both : Bytes (before ++ piece) = front-bytes (before ++ piece) more (subst Bytes cut fits) in
-      let room : length (piece_lines (take_of begun_lister before) piece) ≤ piece_lines_room =
-      omega (arith, piece_short (before ∷ []) (front-bytes before piece both, tt) piece (back-bytes before piece both), small) in
+      let room = piece_room_lem before piece both small in
       record {
         before = before ++ piece;
         cut = cut;

@@ -1,8 +1,9 @@
 -- A telegram made of the bytes that were kept and those of a piece, and what is counted when it and those behind it are heard.
 use Prim.Native.Nat.{ℕ, ◌+◌, ◌-◌, ◌<◌, ◌≤◌}
-use mathlib.Core.Path.{◌≡◌, sym, ap, ap₂, ◌∙◌}
+use mathlib.Core.Path.{◌≡◌, refl, sym, ap, ap₂, ◌∙◌}
 use mathlib.Core.List.{List, ◌∷◌, ◌++◌, append_assoc}
-use lib.ListN.{length, length-append}
+use lib.ListN.{length, take, drop, length-append, take-append-drop}
+use lib.Seq.{length-take-le}
 use native.Mathlib.Omega.{arith}
 use Rattle.kit.specs.Put.{Poured}
 use Rattle.listener.specs.declared.Listener.{Listener}
@@ -33,6 +34,13 @@ unfolding told_through counted_all
 count_turn tally listener {next} {then} {bytes} telegram more cut long counts means =
     ap₂ (λ (t : Tally) (l : Listener). counted_all t (told_through l (telegrams_in more))) counts means
     ∙ sym (ap (λ (l : List (List ℕ)). counted_all tally (told_through listener l)) (ap telegrams_in cut ∙ telegrams-first telegram more long))
+
+-- so the first telegram of some bytes is heard and counted, and then those behind it
+first-heard : (tally : Tally) (listener : Listener) (bytes : List ℕ) → 26 ≤ length bytes
+    → counted_all tally (told_through listener (telegrams_in bytes))
+    ≡ counted_all (counted tally (heard_by listener (take 26 bytes)).told) (told_through (heard_by listener (take 26 bytes)).listener (telegrams_in (drop 26 bytes)))
+first-heard tally listener bytes room =
+    sym (count_turn tally listener (take 26 bytes) (drop 26 bytes) (sym (take-append-drop 26 bytes)) (length-take-le 26 bytes room) refl refl)
 
 -- the end: no telegram is whole
 pub count-end : (tally : Tally) (listener : Listener) (bytes : List ℕ) → length bytes < 26 → to_count tally listener bytes ≡ tally
