@@ -11,7 +11,8 @@ use places::Place;
 use resting::Ended;
 use wire::Refusal;
 
-// The ended numbers stand by the step in which they ended, the newest first, and within a step by slot.
+// The ended numbers stand by the step in which they ended, the newest first, and within a step by slot. Its arrays are of a fixed size, since
+// there is no heap.
 #[derive(Clone, Copy)]
 pub struct Desk {
     pub places: [Place; 20],

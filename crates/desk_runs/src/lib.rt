@@ -9,7 +9,7 @@ ghost use Rattle.desk_runs.specs.Runs.{table_for, line_for, run_tables, refused_
 
 use desk::{Answer, Desk};
 
-// How many bytes were put into each of the two buffers.
+// How many bytes were put into each of the two buffers. They stand beside the buffers, since those are lent from C.
 #[derive(Clone, Copy)]
 pub struct Ran {
     pub tables: usize,
@@ -72,6 +72,7 @@ fn hand_over(input: &[u8], tables: &mut [u8], lines: &mut [u8]) -> Taken
         },
     };
     let mut lists: u64 = 0;
+    // No iterator gives the lists: each says its own length, and the input may end inside one.
     let mut rest = input;
     while !rest.is_empty() {
         let Some(size) = frames::call_size(rest, None) else {

@@ -9,7 +9,8 @@ ghost use Rattle.places.specs.Places.{free_place, orders_of, place_of};
 use condition::Slot;
 use std::array;
 
-// A place of the desk: the order that has it, and its slot in the table. Order 0: the place is free.
+// A place of the desk: the order that has it, and its slot in the table. Order 0: the place is free. It is no Option, since `free_place` and
+// `is_free`, of which the theorems on the desk speak, say so of the number itself.
 #[derive(Clone, Copy)]
 pub struct Place {
     pub order: u32,

@@ -8,7 +8,8 @@ ghost use Rattle.resting.specs.Rests.{none_ended, rests_by, is_resting};
 // How many numbers can have ended and still be kept.
 pub const KEPT: usize = 160;
 
-// A number that an order had when it ended, and the step in which it did. Number 0: none.
+// A number that an order had when it ended, and the step in which it did. Number 0: none. It is no Option, since `none_ended` and
+// `ended_entry`, of which the theorems on the desk speak, say so of the number itself.
 #[derive(Clone, Copy)]
 pub struct Ended {
     pub number: u8,
