@@ -8,6 +8,7 @@ ghost use Rattle.desk.specs.Desks.{table_of, packet_of};
 
 use condition::Slot;
 use desk::Desk;
+use std::array;
 use telegram::Telegram;
 use wire::Refusal;
 
@@ -15,7 +16,7 @@ use wire::Refusal;
 pub fn table_of(desk: Desk) -> [Slot; 20]
     ensures { result ≡ table_of desk }
 {
-    desk.places.map(|place| place.slot)
+    array::from_fn(|i| desk.places[i].slot)
 }
 
 // Writes one packet of the table into a buffer of any length, or refuses and leaves the buffer as it is.

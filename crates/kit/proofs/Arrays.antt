@@ -34,6 +34,14 @@ module _ {F B : Type 0} (g : Mut F (ℕ × Unit {0}) B) (f : F) (of : ℕ → B)
       ext_get_or d ys (each (λ i. of i ∷ []) 0 m) (made.long ∙ sym (length-one-each of m))
       (λ k p. let inside : k < m = omega (arith, made.long) in made-at ys d k made inside ∙ sym (one-each_at of m d k inside))
 
+  -- of the elements of another array
+  pub made_map : {A : Type 0} (h : A → B) (xs : List A) (c : A) → length xs ≡ m → ((i : ℕ) → of i ≡ h (get_or xs i c)) → (ys : List B) → B → IsFromFnResult g f ys m
+      → ys ≡ map h xs
+  made_map h xs c long same ys d made =
+      ext_get_or d ys (map h xs) (made.long ∙ sym (length-map xs h ∙ long)) (λ k p.
+      let inside : k < m = omega (arith, made.long) in
+      made-at ys d k made inside ∙ (same k ∙ sym (map_at h xs k c d (omega (arith, long)))))
+
 -- an array's `map`
 module _ {F A B : Type 0} (g : Mut F (A × Unit {0}) B) (f : F) (of : A → B) (tells : (x : A) (y : B) (q : F) → Called g f (x, tt) y q → (q ≡ f) × (y ≡ of x)) where
   mapped : (xs : List A) (ys : List B) (c : A) (d : B) (i n j : ℕ) → MapsFrom g f xs ys i n → i ≤ j → j < i + n → get_or ys j d ≡ of (get_or xs j c)

@@ -10,18 +10,6 @@ use condition::{SLOTS, Slot};
 use places::Place;
 use resting::{Ended, KEPT};
 
-// Which of the first n orders of a list has this order number, by the order numbers of its first twenty.
-fn listed(numbers: &[u32; 20], list: &[u8], n: u8, number: u32) -> Option<u8>
-    requires { numbers.now ≡ numbers_of list.now }
-    ensures { result ≡ index_below n (listed_at list.now n number) }
-{
-    match order_list::found_at(numbers, number) {
-        Some(at) if at < n as usize => Some(at as u8),
-        None if SLOTS < n as usize => order_list::listed_at(list, n, number),
-        _ => None,
-    }
-}
-
 // What becomes of a place, and what it adds to the numbers that ended.
 #[derive(Clone, Copy)]
 struct Fate {
@@ -29,36 +17,58 @@ struct Fate {
     ended: Ended,
 }
 
-// An order in the list keeps its slot and number and takes the new words. Any other leaves a free place, and its number has ended.
-fn fate_of(numbers: &[u32; 20], list: &[u8], n: u8, step: u16, place: Place) -> Fate
-    requires { numbers.now ≡ numbers_of list.now }
-    ensures { (result.place ≡ kept_among list.now n place) × (result.ended ≡ ended_entry list.now n step place) }
-{
-    if let Some(at) = listed(numbers, list, n, place.order) {
-        let order = order_list::order_at(list, at);
-        return Fate {
-            place: Place {
-                order: place.order,
-                slot: Slot {
-                    number: place.slot.number,
-                    body: condition::body_of(order.kind, order.first, order.second),
+// A list that is looked at as far as its first n orders, and the order numbers of its first twenty.
+#[derive(Clone, Copy)]
+struct Looked<'a> {
+    list: &'a [u8],
+    n: u8,
+    numbers: [u32; 20],
+    ghost at_hand: { numbers ≡ numbers_of list.now },
+}
+
+impl Looked<'_> {
+    // Which of the orders has this order number.
+    fn listed(&self, number: u32) -> Option<u8>
+        ensures { result ≡ index_below self.now.n (listed_at self.now.list.now self.now.n number) }
+    {
+        match order_list::found_at(&self.numbers, number) {
+            Some(at) if at < self.n as usize => Some(at as u8),
+            None if SLOTS < self.n as usize => order_list::listed_at(self.list, self.n, number),
+            _ => None,
+        }
+    }
+
+    // An order in the list keeps its slot and number and takes the new words. Any other leaves a free place, and its number has ended.
+    fn fate_of(&self, step: u16, place: Place) -> Fate
+        ensures { (result.place ≡ kept_among self.now.list.now self.now.n place)
+            × (result.ended ≡ ended_entry self.now.list.now self.now.n step place) }
+    {
+        if let Some(at) = self.listed(place.order) {
+            let order = order_list::order_at(self.list, at);
+            return Fate {
+                place: Place {
+                    order: place.order,
+                    slot: Slot {
+                        number: place.slot.number,
+                        body: condition::body_of(order.kind, order.first, order.second),
+                    },
                 },
-            },
-            ended: Ended::none(),
-        };
-    }
-    if place.order == 0 {
-        return Fate {
+                ended: Ended::none(),
+            };
+        }
+        if place.order == 0 {
+            return Fate {
+                place: Place::free(),
+                ended: Ended::none(),
+            };
+        }
+        Fate {
             place: Place::free(),
-            ended: Ended::none(),
-        };
-    }
-    Fate {
-        place: Place::free(),
-        ended: Ended {
-            number: place.slot.number,
-            step,
-        },
+            ended: Ended {
+                number: place.slot.number,
+                step,
+            },
+        }
     }
 }
 
@@ -75,11 +85,12 @@ pub fn leave(list: &[u8], n: u8, step: u16, places: [Place; 20], ended: [Ended; 
     ensures { result ≡ remains_of list.now n step places ended }
 {
     let numbers = order_list::numbers_of(list);
+    let looked = Looked { list, n, numbers };
     let mut kept = places;
     let mut next = ended;
     next.copy_within(..KEPT - SLOTS, SLOTS);
     for (i, place) in places.iter().enumerate() {
-        let fate = fate_of(&numbers, list, n, step, *place);
+        let fate = looked.fate_of(step, *place);
         kept[i] = fate.place;
         next[i] = fate.ended;
     }

@@ -41,6 +41,7 @@ struct Next {
 
 impl Lister {
     // Before any piece.
+    #[tactic(auto, unfolding(crate::specs::Pieces::begun_lister))]
     pub fn begun() -> Self
         ensures { result ≡ begun_lister }
     {
@@ -152,14 +153,15 @@ fn bite(lister: Lister, bytes: &[u8], listing: &mut [u8], at: usize) -> Listed
     let mut tail = lister.tail;
     let kept = text::put_words(&mut tail, lister.kept, bytes);
     if LENGTH <= kept {
-        return hear_one(lister, &tail, listing, at);
-    }
-    Listed {
-        lister: Lister {
-            tail,
-            kept,
-            ..lister
-        },
-        at: at.min(listing.len()),
+        hear_one(lister, &tail, listing, at)
+    } else {
+        Listed {
+            lister: Lister {
+                tail,
+                kept,
+                ..lister
+            },
+            at: at.min(listing.len()),
+        }
     }
 }

@@ -56,7 +56,8 @@ fn head_at(memory: &[u8; 310], at: usize) -> u32
 // Slot i is marked if it is occupied and begins with the same three bytes as slot i of the picture, and so with one number and one type:
 // most entries that are carried stand where they stood before. An occupied one that does not is one of the others, which are looked up
 // later. Each slot is put down as the next of them, and only one that is gets counted. Both flags are always asked, since a branch that
-// cannot be foretold costs more than the work that it saves. The answer is how many others there are.
+// cannot be foretold costs more than the work that it saves. The answer is how many others there are: with no heap they are the first
+// so many of an array.
 fn sort_out(memory: &[u8; 310], marks: &mut [bool; 20], others: &mut [usize; 20]) -> usize
     ensures { Sorted memory.now slot_count 0 result others.new marks.new }
 {

@@ -206,7 +206,7 @@ pub fn show(memory: &mut [u8; 310])
     memory.copy_within(SET.., PICTURE);
 }
 
-// Flags put from `from` on. A listing of tables takes a tenth more where they are made by an array's `map` first.
+// Flags put from `from` on, one by one: where an array's `map` makes their bytes first, hearing takes a quarter more.
 pub fn put_flags<const N: usize>(memory: &mut [u8; 310], from: usize, flags: [bool; N])
     requires { from + N ≤ 310 }
     ensures { memory.new ≡ sets memory.old from (map flag_byte flags.entry) }

@@ -11,6 +11,7 @@ ghost use Rattle.orders.specs.Orders.{types_of, OfPlaces, is_retyped, order_rows
 
 use order_list::{LENGTH, Order};
 use places::Place;
+use std::array;
 use wire::Refusal;
 
 // The most bytes that a list may have.
@@ -20,7 +21,7 @@ const LONGEST: usize = 200;
 fn types_of(places: [Place; 20]) -> [u8; 20]
     ensures { result ≡ types_of places }
 {
-    places.map(|place| condition::coded_of(place.slot).kind)
+    array::from_fn(|i| condition::coded_of(places[i].slot).kind)
 }
 
 // Whether an order is live with another type, by the orders of the places and their types.

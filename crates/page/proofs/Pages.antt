@@ -12,9 +12,9 @@ use lib.ListN.{length, get_or, take, drop, length-append}
 use lib.Seq.{sets, take_all, sets-eq, length-take-le, take-append-le, take-append-add}
 use native.Mathlib.Omega.{arith}
 use Rattle.kit.specs.Each.{each}
-use Rattle.kit.specs.Put.{Put, Poured}
+use Rattle.kit.specs.Put.{Put}
 use Rattle.kit.proofs.Each.{each_next}
-use Rattle.kit.proofs.Put.{put_then, poured_as}
+use Rattle.kit.proofs.Put.{put_then}
 use Rattle.page.specs.Pages.{Paged, Laid}
 use Rattle.page.specs.Packed.{low_bytes}
 use Rattle.page.specs.Words.{bytes_of_word}
@@ -142,10 +142,6 @@ laid_as {w} {x} {y} {l} {m} {i} {j} {a} {b} {s} {t} put stored le laid =
       place = laid.place ∙ ap (λ bytes. cond (leb (i + w) (length l)) (i + length bytes) i) (sym put);
       paged = λ room. paged_as put (paged-most le (laid.paged room));
     }
-
--- a page filled from its start, copied into a buffer as far as it is filled, pours what was put on the page
-pub paged_filled : {x : ℕ} {p l m : List ℕ} {page : List ℕ} {next at j : ℕ} {bytes : List ℕ} → Paged x p 0 bytes page next → Poured l at (take next page) m j → Poured l at bytes m j
-paged_filled put copied = poured_as (sym put.held) copied
 
 -- ---- one answer
 

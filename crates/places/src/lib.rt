@@ -7,6 +7,7 @@ ghost use Rattle.order_list.specs.Lists.{index_below};
 ghost use Rattle.places.specs.Places.{free_place, orders_of, place_of};
 
 use condition::Slot;
+use std::array;
 
 // A place of the desk: the order that has it, and its slot in the table. Order 0: the place is free.
 #[derive(Clone, Copy)]
@@ -30,7 +31,7 @@ impl Place {
 pub fn orders_of(places: [Place; 20]) -> [u32; 20]
     ensures { result ≡ orders_of places }
 {
-    places.map(|place| place.order)
+    array::from_fn(|i| places[i].order)
 }
 
 // The lowest place that an order has, if it is live. Of order 0: the lowest free place.

@@ -34,6 +34,7 @@ pub struct Tally {
 
 impl Tally {
     // Before any telegram.
+    #[tactic(auto, unfolding(kit::specs::Each::each, crate::specs::Counts::tally_of, crate::specs::Counts::how_many_told, crate::specs::Counts::for_each_number, crate::specs::Counts::first_from))]
     pub fn none() -> Self
         ensures { result ≡ tally_of [] }
     {

@@ -1,8 +1,8 @@
--- `table_of`: the map gives each place's slot.
-use Rattle.std.proofs.Common.{◌≡◌, length, rules}
-use Rattle.kit.proofs.Arrays.{mapped-all}
+-- `table_of`: each element is the slot of its place.
+use Rattle.std.proofs.Common.{◌≡◌, length, refl, rules}
+use Rattle.kit.proofs.Arrays.{made_map}
 use Rattle.condition.specs.Slots.{empty_slot}
-use Rattle.places.specs.Places.{free_place}
+use Rattle.places.specs.Places.{free_place, place_at}
 use Rattle.places.specs.declared.Place.{Place}
 use Rattle.desk.specs.Desks.{table_of}
 use Rattle.desk_writer.proofs.table_of.Goals as goal
@@ -11,4 +11,5 @@ pub returns : goal.returns
 unfolding table_of
 returns c =
     let twenty : length c.args.desk.places ≡ 20 = search rules in
-    mapped-all _ _ (λ (p : Place). p.slot) (λ x y q k. search rules) c.args.desk.places _ free_place empty_slot 20 twenty c.map.ensures.items
+    made_map _ _ (λ i. (place_at c.args.desk.places i).slot) 20 (λ i y q p k. search rules) (λ (p : Place). p.slot) c.args.desk.places free_place twenty (λ i. refl) _ empty_slot
+    c.from_fn.ensures.items

@@ -40,7 +40,7 @@ returns-then-kept-ge-LENGTH c =
     let said = c.hear_one.ensures in
     whole c.requires.0 c.requires.1 p (search rules) said.0 said.1
 
-pub returns : goal.returns
-returns c =
+pub returns-else-kept-ge-LENGTH : goal.returns-else-kept-ge-LENGTH
+returns-else-kept-ge-LENGTH c =
     let p = c.put_words-kept.ensures in
     part c.requires.0 c.requires.1 p (search rules) (record { stored = refl; past = search rules })

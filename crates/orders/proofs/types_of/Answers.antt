@@ -1,12 +1,13 @@
--- `types_of`: the map gives each place's type.
-use Rattle.std.proofs.Common.{◌≡◌, length, rules}
+-- `types_of`: each element is the type of its place.
+use Rattle.std.proofs.Common.{◌≡◌, length, refl, rules}
+use Rattle.kit.proofs.Arrays.{made_map}
 use Rattle.condition.specs.Slots.{coded_of}
-use Rattle.kit.proofs.Arrays.{mapped-all}
-use Rattle.places.specs.Places.{free_place}
+use Rattle.places.specs.Places.{free_place, place_at}
 use Rattle.places.specs.declared.Place.{Place}
 use Rattle.orders.proofs.types_of.Goals as goal
 
 pub returns : goal.returns
 returns c =
     let twenty : length c.args.places ≡ 20 = search rules in
-    mapped-all _ _ (λ (p : Place). (coded_of p.slot).kind) (λ x y q k. search rules) c.args.places _ free_place 0 20 twenty c.map.ensures.items
+    made_map _ _ (λ i. (coded_of (place_at c.args.places i).slot).kind) 20 (λ i y q p k. search rules) (λ (p : Place). (coded_of p.slot).kind) c.args.places free_place twenty (λ i. refl) _ 0
+    c.from_fn.ensures.items

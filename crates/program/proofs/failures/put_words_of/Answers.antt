@@ -4,9 +4,6 @@ use Rattle.kit.proofs.Put.{poured-then, poured_as}
 use Rattle.program.specs.Failures.{doing_words}
 use Rattle.program.proofs.failures.put_words_of.Goals as goal
 
-pub returns-in-ReadingStandard : goal.returns-in-ReadingStandard
-returns-in-ReadingStandard c = poured_as (ap (λ d. doing_words d c.args.name.now) c.in-ReadingStandard.is) c.put_words.ensures
-
 pub returns-in-ReadingFile : goal.returns-in-ReadingFile
 returns-in-ReadingFile c = poured_as (ap (λ d. doing_words d c.args.name.now) c.in-ReadingFile.is) (poured-then c.put_words-next.ensures c.put_words-in-ReadingFile.ensures)
 
@@ -15,9 +12,3 @@ returns-in-Opening c = poured_as (ap (λ d. doing_words d c.args.name.now) c.in-
 
 pub returns-in-Writing : goal.returns-in-Writing
 returns-in-Writing c = poured_as (ap (λ d. doing_words d c.args.name.now) c.in-Writing.is) c.put_words-in-Writing.ensures
-
-pub returns-in-Telling : goal.returns-in-Telling
-returns-in-Telling c = poured_as (ap (λ d. doing_words d c.args.name.now) c.in-Telling.is) c.put_words-in-Telling.ensures
-
-pub returns-in-TakingArgument : goal.returns-in-TakingArgument
-returns-in-TakingArgument c = poured_as (ap (λ d. doing_words d c.args.name.now) c.in-TakingArgument.is) c.put_words-in-TakingArgument.ensures
