@@ -10,8 +10,8 @@ use borrow.Author.Tests.{ne_eqb}
 use Rattle.kit.specs.Ladder.{NoneHolds}
 use Rattle.kit.proofs.Cases.{given}
 use Rattle.kit.proofs.Contracts.{agree, both_facts}
-use Rattle.std.specs.Prelude.{Option, None, Some, option_copied}
-use Rattle.wire.specs.Verdicts.{Verdict, Refused, ruled_refused, ruling_of, verdict_in}
+use Rattle.std.specs.Prelude.{option_copied}
+use Rattle.wire.specs.Verdicts.{Verdict, verdict_refused, ruled_refused, ruling_of, verdict_in}
 use Rattle.wire.proofs.Answers.{ruling_apart}
 use Rattle.wire.proofs.Results.{verdict_in-apart}
 use Rattle.telegram.specs.Telegrams.{read_rows, write_rows, reading_in}
@@ -30,7 +30,7 @@ use Rattle.listener.proofs.Lent.{heard_once}
 use Rattle.listener.proofs.Answers.{hearing_apart}
 use Rattle.listener.proofs.Promises as listener-promises
 use Rattle.signals.specs.Answers.{acceptance, absence, refusal_under, Updating}
-use Rattle.signals.specs.Signals.{missed_by, update_of, update_by}
+use Rattle.signals.specs.Signals.{missed_by, update_of}
 use Rattle.signals.specs.declared.Signals.{Signals}
 use Rattle.signals.proofs.Answers.{noted-apart, updating_apart}
 use Rattle.signals.proofs.Promises as train-promises
@@ -39,23 +39,23 @@ use Rattle.claims.proofs.Functions.{update_call}
 use Rattle.claims.specs.Demand1.{RefusedBy, Lists, Telegrams, TelegramsLent, TrainTelegrams, TrainTelegramsLent, Buffers, Demand1}
 
 -- what is proved of a verdict is proved of what it tells
-ruled : (rows : List (Bool × ℕ)) (verdict : Verdict) → RefusedBy rows Refused verdict → RefusedBy rows ruled_refused (ruling_of verdict)
-ruled rows verdict by number = (λ e. (by number).0 (ruling_apart verdict (Refused number) e), λ decides. ap ruling_of ((by number).1 decides))
+ruled : (rows : List (Bool × ℕ)) (verdict : Verdict) → RefusedBy rows verdict_refused verdict → RefusedBy rows ruled_refused (ruling_of verdict)
+ruled rows verdict by number = (λ e. (by number).0 (ruling_apart verdict (verdict_refused number) e), λ decides. ap ruling_of ((by number).1 decides))
 
 lists : Lists
 lists =
     record {
       defined = λ κs handed answer other lasts others p q. (answer_in-apart answer other (agree p q), refl);
-      refused = λ κs (desk, (list, _)) answer lasts p. ruled (list_rows desk.places list.now) (verdict_in answer.verdict) (subst⁻¹ (λ a. RefusedBy (list_rows desk.places list.now) Refused a.verdict) p (desk-promises.refused-by desk list.now));
+      refused = λ κs (desk, (list, _)) answer lasts p. ruled (list_rows desk.places list.now) (verdict_in answer.verdict) (subst⁻¹ (λ a. RefusedBy (list_rows desk.places list.now) verdict_refused a.verdict) p (desk-promises.refused-by desk list.now));
       unchanged = λ κs (desk, (list, _)) answer lasts p number e.
-          subst⁻¹ (λ a. (number : ℕ) → a.verdict ≡ Refused number → a.desk ≡ desk) p (desk-promises.refused-unchanged desk list.now) number (ruling_apart (verdict_in answer.verdict) (Refused number) e);
+          subst⁻¹ (λ a. (number : ℕ) → a.verdict ≡ verdict_refused number → a.desk ≡ desk) p (desk-promises.refused-unchanged desk list.now) number (ruling_apart (verdict_in answer.verdict) (verdict_refused number) e);
     }
 
 telegrams : Telegrams
 telegrams =
     record {
       read_defined = λ κs handed answer other lasts others p q. (reading_in-apart answer other (agree p q), refl);
-      read_refused = λ κs (bytes, _) answer lasts p. ruled (read_rows bytes.now) (reading_in answer).verdict (subst⁻¹ (λ a. RefusedBy (read_rows bytes.now) Refused a.verdict) p (reading_refused bytes.now));
+      read_refused = λ κs (bytes, _) answer lasts p. ruled (read_rows bytes.now) (reading_in answer).verdict (subst⁻¹ (λ a. RefusedBy (read_rows bytes.now) verdict_refused a.verdict) p (reading_refused bytes.now));
       defined = λ κs handed answer other lasts others p q. (hearing_apart answer other (agree p q), refl);
       refused = λ κs (listener, (telegram, _)) heard lasts p.
           subst⁻¹ (λ (h : Hearing). RefusedBy (hear_rows listener telegram.now) refused_as h.told) p (listener-promises.refused_when carries listener telegram.now);
@@ -154,8 +154,8 @@ buffers =
     record {
       defined = λ κs handed answer other lasts others p q. (verdict_in-apart answer other (agree p.0 q.0), ap (λ bytes. (tt, (tt, (bytes, tt)))) (agree p.1 q.1));
       refused = λ κs (desk, (packet, (buffer, _))) answer lasts p.
-          ruled (write_rows packet (length buffer.now)) (verdict_in answer) (subst⁻¹ (λ v. RefusedBy (write_rows packet (length buffer.now)) Refused v) p.0 (writing_refused (packet_of desk packet) buffer.now));
-      unchanged = λ κs (desk, (packet, (buffer, _))) answer lasts p number e. p.1 ∙ refused_untouched (packet_of desk packet) buffer.now number (sym p.0 ∙ ruling_apart (verdict_in answer) (Refused number) e);
+          ruled (write_rows packet (length buffer.now)) (verdict_in answer) (subst⁻¹ (λ v. RefusedBy (write_rows packet (length buffer.now)) verdict_refused v) p.0 (writing_refused (packet_of desk packet) buffer.now));
+      unchanged = λ κs (desk, (packet, (buffer, _))) answer lasts p number e. p.1 ∙ refused_untouched (packet_of desk packet) buffer.now number (sym p.0 ∙ ruling_apart (verdict_in answer) (verdict_refused number) e);
     }
 
 pub demand1 : Demand1

@@ -9,7 +9,7 @@ use lib.ListN.{length, get_or}
 use Rattle.kit.specs.Bytes.{Bytes, bit}
 use Rattle.kit.proofs.Cases.{given}
 use Rattle.wire.specs.Distances.{InRange, distance_word}
-use Rattle.wire.specs.Verdicts.{Accepted, ruling_of, verdict_in}
+use Rattle.wire.specs.Verdicts.{verdict_accepted, ruling_of, verdict_in}
 use Rattle.std.specs.Prelude.{option_copied}
 use Rattle.wire.proofs.Answers.{ruling_apart}
 use Rattle.claims.specs.Functions.{with_one, bytes_in}
@@ -47,7 +47,7 @@ use Rattle.claims.specs.Demand2.{Codes, AsDocument01Says, ReadBack, record_after
 -- ---- writing and reading
 
 -- what is written of a desk codes its telegram
-written_codes : (desk : Desk) (packet : ℕ) (buffer : List ℕ) → Made desk → write_verdict (packet_of desk packet) buffer ≡ Accepted
+written_codes : (desk : Desk) (packet : ℕ) (buffer : List ℕ) → Made desk → write_verdict (packet_of desk packet) buffer ≡ verdict_accepted
     → Codes (λ c. c) (written (packet_of desk packet) buffer) (packet_of desk packet)
 unfolding packet_of
 written_codes desk packet buffer made accepted =
@@ -63,7 +63,7 @@ written_codes desk packet buffer made accepted =
     }))
 
 -- what is read is what the bytes code
-read_codes : (bytes : List ℕ) → (read_of bytes).verdict ≡ Accepted → Codes settled bytes (read_of bytes).telegram
+read_codes : (bytes : List ℕ) → (read_of bytes).verdict ≡ verdict_accepted → Codes settled bytes (read_of bytes).telegram
 unfolding meant
 read_codes bytes accepted =
     let s = (reading_accepted bytes).0 accepted in
@@ -85,9 +85,9 @@ coded : AsDocument01Says
 coded =
     record {
       writes = λ κs (desk, (packet, (buffer, _))) answer lasts p made accepted.
-          subst⁻¹ (λ bytes. Codes (λ c. c) bytes (packet_of desk packet)) p.1 (written_codes desk packet buffer.now made (sym p.0 ∙ ruling_apart (verdict_in answer) Accepted accepted));
+          subst⁻¹ (λ bytes. Codes (λ c. c) bytes (packet_of desk packet)) p.1 (written_codes desk packet buffer.now made (sym p.0 ∙ ruling_apart (verdict_in answer) verdict_accepted accepted));
       reads_so = λ κs (bytes, _) answer lasts p accepted.
-          subst⁻¹ (λ (r : Reading). r.verdict ≡ Accepted → Codes settled bytes.now r.telegram) p (read_codes bytes.now) (ruling_apart (reading_in answer).verdict Accepted accepted);
+          subst⁻¹ (λ (r : Reading). r.verdict ≡ verdict_accepted → Codes settled bytes.now r.telegram) p (read_codes bytes.now) (ruling_apart (reading_in answer).verdict verdict_accepted accepted);
       distances = λ κs (word, _) distance lasts p. subst⁻¹ (λ d. word < 0x10000 → InRange d × (distance_word d ≡ word)) p (word-said word);
       signals = λ κs (signals, (telegram, _)) updated lasts p.
           let call = option_copied telegram in
@@ -101,15 +101,15 @@ coded =
     }
 
 -- what was written of a desk is read as it was
-read-written : (desk : Desk) (packet : ℕ) (buffer : List ℕ) → Made desk → write_verdict (packet_of desk packet) buffer ≡ Accepted
-    → read_of (written (packet_of desk packet) buffer) ≡ record { verdict = Accepted; telegram = packet_of desk packet }
+read-written : (desk : Desk) (packet : ℕ) (buffer : List ℕ) → Made desk → write_verdict (packet_of desk packet) buffer ≡ verdict_accepted
+    → read_of (written (packet_of desk packet) buffer) ≡ record { verdict = verdict_accepted; telegram = packet_of desk packet }
 unfolding packet_of
 read-written desk packet buffer made accepted =
     given (accepted-asked (packet_of desk packet) buffer accepted)
     (λ (low, high, long). ap read_of (accepted-written (packet_of desk packet) buffer accepted) ∙ packet-read (made-sound made) packet low high)
 
 -- what was read is written again
-written-again : (bytes buffer : List ℕ) → Bytes bytes → (read_of bytes).verdict ≡ Accepted → length buffer ≡ 26
+written-again : (bytes buffer : List ℕ) → Bytes bytes → (read_of bytes).verdict ≡ verdict_accepted → length buffer ≡ 26
     → (i b : ℕ) → i < 26 → bit b (get_or (written (read_of bytes).telegram buffer) i 0) ≡ cond (may_alter bytes i b) false (bit b (get_or bytes i 0))
 written-again bytes buffer fits accepted long i b below =
     let t = (read_of bytes).telegram in
@@ -122,12 +122,12 @@ unfolding packet_of
 read_back =
     record {
       each_packet = λ κs (desk, (packet, (buffer, _))) answer lasts p made accepted κs' (bytes, _) read lasts' q same.
-          let back = q ∙ (ap read_of (same ∙ p.1) ∙ read-written desk packet buffer.now made (sym p.0 ∙ ruling_apart (verdict_in answer) Accepted accepted)) in
+          let back = q ∙ (ap read_of (same ∙ p.1) ∙ read-written desk packet buffer.now made (sym p.0 ∙ ruling_apart (verdict_in answer) verdict_accepted accepted)) in
           (ap (λ (r : Reading). ruling_of r.verdict) back, ap (λ (r : Reading). r.telegram) back);
       table = λ κs (desk, _) table lasts p i below. (slot-carried (table_of desk) i below).1 ∙ ap (λ t. table_slot t i) (sym p);
       again = λ κs (bytes, _) read lasts p fits accepted κs' (telegram, (buffer, _)) answer lasts' q same long i b below.
           ap (λ l. bit b (get_or l i 0)) (q.1 ∙ ap (λ t. written t buffer.now) (same ∙ ap (λ (r : Reading). r.telegram) p))
-          ∙ written-again bytes.now buffer.now fits (sym (ap (λ (r : Reading). r.verdict) p) ∙ ruling_apart (reading_in read).verdict Accepted accepted) long i b below;
+          ∙ written-again bytes.now buffer.now fits (sym (ap (λ (r : Reading). r.verdict) p) ∙ ruling_apart (reading_in read).verdict verdict_accepted accepted) long i b below;
     }
 
 -- ---- what is shown

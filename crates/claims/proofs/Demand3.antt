@@ -3,7 +3,7 @@ use mathlib.Core.Path.{sym, ap, ◌∙◌}
 use mathlib.Core.List.{List}
 use Prim.Native.Nat.{ℕ}
 use native.Mathlib.Omega.{arith}
-use Rattle.wire.specs.Verdicts.{Accepted, ruling_of, verdict_in}
+use Rattle.wire.specs.Verdicts.{verdict_accepted, ruling_of, verdict_in}
 use Rattle.wire.proofs.Answers.{ruling_apart}
 use Rattle.telegram.proofs.ReadAgain.{read_again}
 use Rattle.telegram.proofs.Refusals.{accepted-written, packet-accepted}
@@ -25,7 +25,7 @@ functions =
       desk_begins = λ κs handed desk lasts p. p;
       accepts = λ κs handed answer lasts p. p;
       made = calls_made;
-      writes = λ κs (desk, (packet, (buffer, _))) answer lasts p accepted. p.1 ∙ accepted-written (packet_of desk packet) buffer.now (sym p.0 ∙ ruling_apart (verdict_in answer) Accepted accepted);
+      writes = λ κs (desk, (packet, (buffer, _))) answer lasts p accepted. p.1 ∙ accepted-written (packet_of desk packet) buffer.now (sym p.0 ∙ ruling_apart (verdict_in answer) verdict_accepted accepted);
       writes_five = λ κs (desk, (packet, (buffer, _))) verdict lasts p low high long. ap ruling_of (p.0 ∙ packet-accepted (packet_of desk packet) buffer.now low high long);
       listener_begins = λ κs handed listener lasts p. p;
       hears = λ κs handed heard lasts p. p;

@@ -8,7 +8,7 @@ use mathlib.Core.Bool.{true}
 use mathlib.Core.List.{List, [], ◌∷◌}
 use native.Mathlib.Omega.{arith}
 use Rattle.kit.proofs.Cases.{clash, given}
-use Rattle.wire.specs.Verdicts.{Accepted}
+use Rattle.wire.specs.Verdicts.{verdict_accepted}
 use Rattle.telegram.specs.Tables.{table_slot, four_of}
 use Rattle.telegram.specs.Sendable.{Sendable}
 use Rattle.telegram.specs.declared.Telegram.{Telegram}
@@ -25,18 +25,18 @@ use Rattle.claims.proofs.History.{sound, step_is, occupied_ordered, again-stood,
 
 -- M-2d: reading a written telegram gives that telegram
 abbrev pub ReadsBack : {Message : Type 0} → Binding Message → Type 0
-ReadsBack binding = (t : Telegram) → Sendable t → binding.CanCarry t → binding.read (binding.write t) ≡ record { verdict = Accepted; telegram = t }
+ReadsBack binding = (t : Telegram) → Sendable t → binding.CanCarry t → binding.read (binding.write t) ≡ record { verdict = verdict_accepted; telegram = t }
 
 module _ (rest reach : ℕ) (enough : reach ≤ rest) (few : rest ≤ 11) {Message : Type 0} (binding : Binding Message) (back : ReadsBack binding) (calls : List (List ℕ)) where
   -- a telegram that was sent is read as it was sent
   pub read_back : (n p : ℕ) → OfTheDesk rest reach binding calls n p
-      → binding.read (message_of rest reach binding calls (sent n p)) ≡ record { verdict = Accepted; telegram = telegram_in rest reach binding calls n p }
+      → binding.read (message_of rest reach binding calls (sent n p)) ≡ record { verdict = verdict_accepted; telegram = telegram_in rest reach binding calls n p }
   read_back n p (made, low, high, carries) =
       let step = step_is rest few calls n made in
       let telegram : packet_of (desk_of rest calls n) p ≡ telegram_in rest reach binding calls n p =
       telegram-is (desk_of rest calls n) p ∙ (λ i. record { packet = p; step = step i; slots = four_of (table_in rest calls n) p }) in
       back (packet_of (desk_of rest calls n) p) (packet_sendable (sound rest few calls n) p low high) carries
-      ∙ (λ i. record { verdict = Accepted; telegram = telegram i })
+      ∙ (λ i. record { verdict = verdict_accepted; telegram = telegram i })
 
   -- a mark is set exactly when the condition is carried
   pub marked : (whole : List ℕ) → Falling rest reach binding calls whole → (i : ℕ)

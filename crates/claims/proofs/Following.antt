@@ -12,7 +12,7 @@ use borrow.Author.Tests.{eqb-true, eqb-false, eq-eqb, ne_eqb}
 use Rattle.kit.proofs.Cases.{on, clash, given}
 use Rattle.wire.proofs.Answers.{ruling_apart}
 use Rattle.wire.specs.Steps.{steps}
-use Rattle.wire.specs.Verdicts.{Accepted, Refused, number_of}
+use Rattle.wire.specs.Verdicts.{verdict_accepted, verdict_refused, number_of}
 use Rattle.condition.specs.declared.slots.Slot.{Slot}
 use Rattle.telegram.specs.Tables.{first_packet, four_of}
 use Rattle.condition.specs.Slots.{slot_count}
@@ -302,9 +302,9 @@ module _ (rest reach : ℕ) {Message : Type 0} (binding : Binding Message) (call
 
   -- ---- the theorem, of tables of twenty slots whose numbers do not clash, and whose packets are read as they were sent
   module _ (twenty : (n : ℕ) → length (T n) ≡ slot_count) (apart : (n : ℕ) → clashes (T n) ≡ false)
-      (back : (n p : ℕ) → OfTheDesk rest reach binding calls n p → binding.read (message_of rest reach binding calls (sent n p)) ≡ record { verdict = Accepted; telegram = telegram_in n p }) where
+      (back : (n p : ℕ) → OfTheDesk rest reach binding calls n p → binding.read (message_of rest reach binding calls (sent n p)) ≡ record { verdict = verdict_accepted; telegram = telegram_in n p }) where
     heard_as : (l : Listener) (n p : ℕ) → OfTheDesk rest reach binding calls n p → hear_of reach l (binding.read (message_of rest reach binding calls (sent n p))) ≡ heard_of reach l (telegram_in n p)
-    heard_as l n p s = ap (hear_of reach l) (back n p s) ∙ hear_as reach l (record { verdict = Accepted; telegram = telegram_in n p }) refl
+    heard_as l n p s = ap (hear_of reach l) (back n p s) ∙ hear_as reach l (record { verdict = verdict_accepted; telegram = telegram_in n p }) refl
 
     follow-late : (l : Listener) (n p : ℕ) (r : List (Item Message)) (before : List ℕ) → OfTheDesk rest reach binding calls n p → wholes r ≡ n ∷ before → Rel r l
         → Follows (sent n p) r (heard_of reach l (telegram_in n p))
@@ -341,7 +341,7 @@ module _ (rest reach : ℕ) {Message : Type 0} (binding : Binding Message) (call
     following r (damaged {earlier} other number h e) =
         let l : Listener = listener_after rest reach binding calls earlier in
         let v : Rel earlier l = (following earlier h).0 in
-        let refused : (binding.read other).verdict ≡ Refused number = ruling_apart (binding.read other).verdict (Refused number) e in
+        let refused : (binding.read other).verdict ≡ verdict_refused number = ruling_apart (binding.read other).verdict (verdict_refused number) e in
         subst (Follows (spoilt other) earlier) (sym (hear-refused reach l (binding.read other) number refused)) (record { shown = v.shown; hand = hand-spoilt other earlier l.hand v.hand }, ap (λ t. refused_as (number_of t)) (sym refused))
 
     pub shown : (r : List (Item Message)) → Premises rest reach binding calls r → Shown (wholes r) (listener_after rest reach binding calls r)

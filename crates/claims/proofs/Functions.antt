@@ -14,7 +14,7 @@ use Rattle.condition.specs.declared.slots.Slot.{Slot}
 use Rattle.telegram.specs.Telegrams.{Reading, read_of, write_verdict, written}
 use Rattle.telegram.specs.declared.Telegram.{Telegram}
 use Rattle.telegram.proofs.Readings.{read_answer, write_answer}
-use Rattle.desk.specs.Desks.{Answer, base_rest, fresh_desk, accept_of, table_of, packet_of}
+use Rattle.desk.specs.Desks.{Accepting, base_rest, fresh_desk, accept_of, table_of, packet_of}
 use Rattle.desk.proofs.Answers.{accept_answer}
 use Rattle.desk.specs.declared.Desk.{Desk}
 use Rattle.listener.specs.Listeners.{carries, fresh_listener, hear_of}
@@ -57,7 +57,7 @@ fresh_desk-says Such = (
   λ plain κs _ desk lasts p. subst⁻¹ Such p plain,
 )
 
-pub accept-says : (Such : Desk → List ℕ → Answer → Type 0) → OfAccept Such ↔ ((desk : Desk) (list : List ℕ) → Such desk list (accept_of base_rest desk list))
+pub accept-says : (Such : Desk → List ℕ → Accepting → Type 0) → OfAccept Such ↔ ((desk : Desk) (list : List ℕ) → Such desk list (accept_of base_rest desk list))
 accept-says Such = (
   λ promised desk list. let a = accept_answer base_rest desk list in subst (Such desk list) a.1 (promised ([], tt) (desk, (lent list, tt)) a.0 (tt, (tt, tt)) a.1),
   λ plain κs (desk, (list, _)) answer lasts p. subst⁻¹ (Such desk list.now) p (plain desk list.now),

@@ -13,7 +13,7 @@ use borrow.Author.Tests.{eqb-true, eqb-false, ne_eqb, ltb-true, ltb-false, lt-lt
 use Rattle.kit.proofs.Cases.{on, given}
 use Rattle.condition.specs.Slots.{is_occupied, kind_of, slot_count}
 use Rattle.wire.specs.Steps.{steps}
-use Rattle.wire.specs.Verdicts.{Accepted as Passed, number_of}
+use Rattle.wire.specs.Verdicts.{verdict_accepted as Passed, number_of}
 use Rattle.condition.proofs.Coding.{held_occupied}
 use Rattle.telegram.specs.Tables.{table_slot}
 use Rattle.order_list.specs.Lists.{stands, order_count, listed_at}

@@ -10,7 +10,7 @@ use native.Mathlib.Omega.{arith}
 use borrow.Author.Tests.{eqb-true, eqb-false, ltb-true, ltb-false}
 use Rattle.kit.proofs.Cases.{on, clash, given}
 use Rattle.kit.proofs.Member.{pigeonhole}
-use Rattle.wire.specs.Verdicts.{Accepted as passed, Refused, ruled_accepted, ruling_of, verdict_in}
+use Rattle.wire.specs.Verdicts.{verdict_accepted as passed, verdict_refused, ruled_accepted, ruling_of, verdict_in}
 use Rattle.wire.proofs.Answers.{ruling_apart, verdict-number}
 use Rattle.places.specs.Places.{free_place, place_at}
 use Rattle.places.proofs.Live.{live_when}
@@ -20,7 +20,7 @@ use Rattle.numbers.proofs.Search.{number-none, permitted-only}
 use Rattle.resting.specs.Rests.{is_resting}
 use Rattle.resting.specs.declared.Ended.{Ended}
 use Rattle.resting.proofs.Rested.{covers-resting}
-use Rattle.desk.specs.Desks.{Answer, answer_in, base_rest as eight, fresh_with, accept_of, Made, called}
+use Rattle.desk.specs.Desks.{Accepting, answer_in, base_rest as eight, fresh_with, accept_of, Made, called}
 use Rattle.desk.proofs.Runs.{desk_run, AllAccepted, EndedAgo}
 use Rattle.desk.specs.Steps.{step_of}
 use Rattle.desk.specs.declared.Desk.{Desk}
@@ -54,14 +54,14 @@ unrefused_when : (desk : Desk) (list : List ℕ) → (accept_of eight desk list)
 unfolding accept_of
 unrefused_when desk list e = verdict-number passed e
 
-steps-one : (calls : List (List ℕ)) (desk : Desk) (list : List ℕ) (answer : Answer) → answer ≡ accept_of eight desk list → desk ≡ desk_after eight calls
+steps-one : (calls : List (List ℕ)) (desk : Desk) (list : List ℕ) (answer : Accepting) → answer ≡ accept_of eight desk list → desk ≡ desk_after eight calls
     → answer.verdict ≡ passed → OneStep calls desk list answer.desk
 steps-one calls desk list answer is same accepts-it =
     let history = desk_run_lem eight calls in
     let lists = accepted eight calls in
     let before : desk ≡ desk_run eight eight lists = same ∙ history.0 in
-    let zero-refusal : list_refusal desk.places list ≡ 0 = unrefused_when desk list (ap (λ (a : Answer). a.verdict) (sym is) ∙ accepts-it) in
-    let after : answer.desk ≡ step_of eight (desk_run eight eight lists) list = ap (λ (a : Answer). a.desk) (is ∙ accepts eight desk list zero-refusal) ∙ ap (λ (d : Desk). step_of eight d list) before in
+    let zero-refusal : list_refusal desk.places list ≡ 0 = unrefused_when desk list (ap (λ (a : Accepting). a.verdict) (sym is) ∙ accepts-it) in
+    let after : answer.desk ≡ step_of eight (desk_run eight eight lists) list = ap (λ (a : Accepting). a.desk) (is ∙ accepts eight desk list zero-refusal) ∙ ap (λ (d : Desk). step_of eight d list) before in
     subst (λ (d : Desk). OneStep calls d list answer.desk) (sym before)
     (subst (λ (d : Desk). OneStep calls (desk_run eight eight lists) list d) (sym after)
     (one-step calls list (subst (λ (d : Desk). list_refusal d.places list ≡ 0) before zero-refusal)))
@@ -149,7 +149,7 @@ step =
           subst (λ (d : Desk). (d ≡ desk_after eight []) × (d.step ≡ 0) × (d.last ≡ 0) × ((i : ℕ) → place_at d.places i ≡ free_place)) (sym p)
           (fresh-after, fresh-says.0, fresh-says.1, fresh_at eight);
       goes_on = λ κs (desk, (list, _)) answer lasts p calls same.
-          ap (λ (a : Answer). a.desk) p ∙ (ap (λ (d : Desk). (accept_of eight d list.now).desk) same ∙ one_call_more calls list.now);
+          ap (λ (a : Accepting). a.desk) p ∙ (ap (λ (d : Desk). (accept_of eight d list.now).desk) same ∙ one_call_more calls list.now);
       by_calls = λ desk. (made_calls, λ (calls, e). subst Made (sym e) (calls_made calls));
       steps_so = λ κs (desk, (list, _)) answer lasts p calls same accepts-it. steps-one calls desk list.now (answer_in answer) p same (ruling_apart (verdict_in answer.verdict) passed accepts-it);
       determined = λ calls list one other. alike calls (desk_after eight calls) list one other (made-sound (calls_made calls)).below;
@@ -157,8 +157,8 @@ step =
       few_rest = λ calls numbers different rest_all. omega (arith, few_rest calls numbers different rest_all);
       one_permitted = one_permitted;
       empty = λ κs (desk, (list, _)) answer lasts p m none.
-          subst (λ (a : Answer). (ruling_of a.verdict ≡ ruled_accepted) × ((i : ℕ) → place_at a.desk.places i ≡ free_place)) (sym (p ∙ ap (accept_of eight desk) none))
+          subst (λ (a : Accepting). (ruling_of a.verdict ≡ ruled_accepted) × ((i : ℕ) → place_at a.desk.places i ≡ free_place)) (sym (p ∙ ap (accept_of eight desk) none))
           (ap ruling_of (promises.empty-accepted m), empties m);
       refused = λ κs (desk, (list, _)) answer lasts p number e.
-          ap (λ (a : Answer). a.desk) p ∙ promises.refused-unchanged desk list.now number (ap (λ (a : Answer). a.verdict) (sym p) ∙ ruling_apart (verdict_in answer.verdict) (Refused number) e);
+          ap (λ (a : Accepting). a.desk) p ∙ promises.refused-unchanged desk list.now number (ap (λ (a : Accepting). a.verdict) (sym p) ∙ ruling_apart (verdict_in answer.verdict) (verdict_refused number) e);
     }

@@ -26,7 +26,7 @@ use Rattle.wire.specs.declared.distances.Distance.{Distance}
 use Rattle.wire.specs.Verdicts.{Verdict, verdict_in}
 use Rattle.condition.specs.declared.slots.Slot.{Slot}
 use Rattle.telegram.specs.declared.Telegram.{Telegram}
-use Rattle.desk.specs.Desks.{Answer, answer_in}
+use Rattle.desk.specs.Desks.{Accepting, answer_in}
 use Rattle.desk.specs.declared.Desk.{Desk}
 use Rattle.listener.specs.declared.Answer as Vehicle
 use Rattle.listener.specs.declared.Heard.{Heard}
@@ -77,7 +77,7 @@ abbrev pub OfFreshDesk : (Desk → Type 0) → Type 0
 OfFreshDesk Such = Promised fresh-desk-contract.ended fresh-desk.Reads.Learnt (λ κs _ desk lasts. Such desk)
 
 -- `Desk::accept(desk, list)`
-abbrev pub OfAccept : (Desk → List ℕ → Answer → Type 0) → Type 0
+abbrev pub OfAccept : (Desk → List ℕ → Accepting → Type 0) → Type 0
 OfAccept Such = Promised accept-contract.ended accept.Reads.Learnt (λ κs (desk, (list, _)) answer lasts. Such desk list.now (answer_in answer))
 
 -- `desk_writer::table_of(desk)`

@@ -1,6 +1,6 @@
 // A slot, and the number, type and two words that code it.
 ghost use Rattle.std.specs.Prelude.{◌≡◌};
-ghost use Rattle.wire.specs.Verdicts.{number_in};
+ghost use Rattle.wire.specs.Verdicts.{refusal_number};
 ghost use Rattle.condition.specs.Slots.{empty_slot, is_occupied, body_of, slot_refusal, coded_of};
 
 use kinds::{COUNTRIES, CURRENT, TRACTION, VOLTAGES, is_kind, second_allowed, second_held};
@@ -93,7 +93,7 @@ pub fn body_of(kind: u8, first: u16, second: u16) -> Body
 // The first of the rows 12, 13 and 6 that holds.
 #[tactic(auto, unfolding(kit::specs::Ladder::ladder, crate::specs::Slots::slot_rows, kinds::specs::Words::second_allowed, kinds::specs::Words::is_considered))]
 pub fn refusal_of(coded: Coded) -> Result<(), Refusal>
-    ensures { number_in result ≡ slot_refusal coded }
+    ensures { refusal_number result ≡ slot_refusal coded }
 {
     let Coded {
         number,

@@ -7,7 +7,7 @@ use native.Mathlib.Omega.{arith}
 use borrow.Author.Tests.{eqb-true, eqb-false, ne_eqb}
 use Rattle.kit.proofs.Cases.{on}
 use Rattle.wire.proofs.Answers.{verdict-accepted, verdict-refused}
-use Rattle.wire.specs.Verdicts.{Accepted as accepted, Refused}
+use Rattle.wire.specs.Verdicts.{verdict_accepted as accepted, verdict_refused}
 use Rattle.orders.specs.Orders.{list_refusal}
 use Rattle.desk.specs.declared.Desk.{Desk}
 use Rattle.desk.specs.Desks.{base_rest, accept_of, Made, made_fresh, called}
@@ -23,7 +23,7 @@ module _ (figure : ℕ) (desk : Desk) (list : List ℕ) where
   accepts e = rw e (λ i. record { verdict = verdict-accepted 0 refl i; desk = step_of figure desk list })
 
   -- D-18, R-24: a refused one changes nothing, the rests included
-  pub refuses : (list_refusal desk.places list ≡ 0 → ⊥) → accept_of figure desk list ≡ record { verdict = Refused (list_refusal desk.places list); desk = desk }
+  pub refuses : (list_refusal desk.places list ≡ 0 → ⊥) → accept_of figure desk list ≡ record { verdict = verdict_refused (list_refusal desk.places list); desk = desk }
   unfolding accept_of
   refuses n = rw (ne_eqb (list_refusal desk.places list) 0 n) (λ i. record { verdict = verdict-refused (list_refusal desk.places list) n i; desk = desk })
 

@@ -15,14 +15,14 @@ use Rattle.kit.proofs.Cases.{given}
 use Rattle.kit.proofs.Ladder.{ladder_decides, decides_positive}
 use Rattle.wire.proofs.Answers.{refused_when, accepted_when}
 use Rattle.condition.specs.Slots.{coded_of}
-use Rattle.wire.specs.Verdicts.{Accepted, Refused}
+use Rattle.wire.specs.Verdicts.{verdict_accepted, verdict_refused}
 use Rattle.telegram.specs.Telegrams.{read_of, bytes_of}
 use Rattle.order_list.specs.Lists.{order_at, listed_at, stands, order_named}
 use Rattle.places.specs.Places.{place_at, lowest_free, is_live}
 use Rattle.orders.specs.Orders.{list_rows, list_refusal}
 use Rattle.orders.proofs.Lists.{fair}
 use Rattle.orders.proofs.Rows.{list-numbered}
-use Rattle.desk.specs.Desks.{Answer, base_rest, accept_of, packet_of, Made}
+use Rattle.desk.specs.Desks.{Accepting, base_rest, accept_of, packet_of, Made}
 use Rattle.leaving.specs.Leaving.{body_in}
 use Rattle.desk.specs.Steps.{kept_place}
 use Rattle.desk.proofs.Runs.{desk_run, AllAccepted as Accepted-run, OneNotLive}
@@ -41,19 +41,19 @@ use Rattle.desk.proofs.Tables.{packet-read}
 -- R-18, R-23: a list is refused under a number exactly when the row with that number holds and no earlier one does, and accepted
 -- exactly when none holds. This is so of any desk.
 module _ (desk : Desk) (list : List ℕ) where
-  pub refused-by : (number : ℕ) → ((accept_of base_rest desk list).verdict ≡ Refused number) ↔ Decides (list_rows desk.places list) number
+  pub refused-by : (number : ℕ) → ((accept_of base_rest desk list).verdict ≡ verdict_refused number) ↔ Decides (list_rows desk.places list) number
   unfolding accept_of
   refused-by = refused_when (list_rows desk.places list) (list-numbered desk.places list)
 
-  pub accepted-by : ((accept_of base_rest desk list).verdict ≡ Accepted) ↔ NoneHolds (list_rows desk.places list)
+  pub accepted-by : ((accept_of base_rest desk list).verdict ≡ verdict_accepted) ↔ NoneHolds (list_rows desk.places list)
   unfolding accept_of
   accepted-by = accepted_when (list_rows desk.places list) (list-numbered desk.places list)
 
   -- D-18, R-24: a refused list changes nothing, the rests included
-  pub refused-unchanged : (number : ℕ) → (accept_of base_rest desk list).verdict ≡ Refused number → (accept_of base_rest desk list).desk ≡ desk
+  pub refused-unchanged : (number : ℕ) → (accept_of base_rest desk list).verdict ≡ verdict_refused number → (accept_of base_rest desk list).desk ≡ desk
   refused-unchanged number e =
       let above = decides_positive (list_rows desk.places list) number (list-numbered desk.places list) ((refused-by number).0 e) in
-      ap (λ (r : Answer). r.desk) (refuses base_rest desk list (λ none. omega (arith, ladder_decides 0 number (list_rows desk.places list) ((refused-by number).0 e))))
+      ap (λ (r : Accepting). r.desk) (refuses base_rest desk list (λ none. omega (arith, ladder_decides 0 number (list_rows desk.places list) ((refused-by number).0 e))))
 
 module _ {desk : Desk} (made : Made desk) where
   -- D-10, L-09: live numbers are 1 to 255, and no two live orders have the same
@@ -86,7 +86,7 @@ module _ {desk : Desk} (made : Made desk) where
       (made-sound made).orderly.twenty desk.last
 
   -- M-2d: each packet that it writes is read back
-  pub reads-back : (packet : ℕ) → 3 ≤ packet → packet ≤ 7 → read_of (bytes_of (packet_of desk packet)) ≡ record { verdict = Accepted; telegram = packet_of desk packet }
+  pub reads-back : (packet : ℕ) → 3 ≤ packet → packet ≤ 7 → read_of (bytes_of (packet_of desk packet)) ≡ record { verdict = verdict_accepted; telegram = packet_of desk packet }
   reads-back = packet-read (made-sound made)
 
   module _ (list : List ℕ) (accepted : list_refusal desk.places list ≡ 0) where
@@ -120,8 +120,8 @@ module _ {desk : Desk} (made : Made desk) where
   unfolding list_rows each ladder
   empty-unrefused = refl
 
-  pub empty-accepted : (accept_of base_rest desk []).verdict ≡ Accepted
-  empty-accepted = ap (λ (r : Answer). r.verdict) (accepts base_rest desk [] empty-unrefused)
+  pub empty-accepted : (accept_of base_rest desk []).verdict ≡ verdict_accepted
+  empty-accepted = ap (λ (r : Accepting). r.verdict) (accepts base_rest desk [] empty-unrefused)
 
   pub empty-ends : (order : ℕ) → 1 ≤ order → is_live (accept_of base_rest desk []).desk.places order ≡ false
   unfolding listed_at scan

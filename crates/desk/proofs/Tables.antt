@@ -6,7 +6,7 @@ use lib.ListN.{length, get_or, length-map, get_or-map}
 use native.Mathlib.Omega.{arith}
 use Rattle.condition.specs.Slots.{empty_slot, MayHold, slot_count}
 use Rattle.condition.specs.declared.slots.Slot.{Slot}
-use Rattle.wire.specs.Verdicts.{Accepted}
+use Rattle.wire.specs.Verdicts.{verdict_accepted}
 use Rattle.telegram.specs.Sendable.{Sendable}
 use Rattle.telegram.specs.Tables.{four_of}
 use Rattle.telegram.specs.Telegrams.{read_of, bytes_of, written}
@@ -49,7 +49,7 @@ module _ {rows : ℕ} {desk : Desk} (sound : Sound rows desk) where
   packet_sendable packet low high = table_sendable (table_of desk) table-held table-distinct packet desk.step low high sound.below
 
   -- each of the five packets is accepted and read as it was meant
-  pub packet-read : (packet : ℕ) → 3 ≤ packet → packet ≤ 7 → read_of (bytes_of (packet_of desk packet)) ≡ record { verdict = Accepted; telegram = packet_of desk packet }
+  pub packet-read : (packet : ℕ) → 3 ≤ packet → packet ≤ 7 → read_of (bytes_of (packet_of desk packet)) ≡ record { verdict = verdict_accepted; telegram = packet_of desk packet }
   packet-read packet low high = read_again (packet_of desk packet) (packet_sendable packet low high)
 
   -- so every slot of the table is read back, at its place of its packet

@@ -10,7 +10,7 @@ use Rattle.condition.specs.Slots.{slot_count}
 use Rattle.places.specs.declared.Place.{Place}
 use Rattle.resting.specs.Rests.{none_ended}
 use Rattle.desk.specs.declared.Desk.{Desk}
-use Rattle.desk.specs.declared.Answer.{Answer as Answered}
+use Rattle.desk.specs.declared.Answer.{Answer}
 use Rattle.desk.specs.Steps.{step_of}
 
 -- D-12, D-13: eight tables in a row go without an ended number
@@ -26,17 +26,17 @@ abbrev pub fresh_desk : Desk
 fresh_desk = fresh_with base_rest
 
 -- C-12: the verdict, and the desk beside it
-pub record Answer : Type 0 where
+pub record Accepting : Type 0 where
   pub verdict : Verdict
   pub desk : Desk
 
 -- C-12: what the code's answer says
-abbrev pub answer_in : Answered → Answer
+abbrev pub answer_in : Answer → Accepting
 answer_in answer = record { verdict = verdict_in answer.verdict; desk = answer.desk }
 
 -- M-1a, D-02, D-18: refused with the desk as it was, or accepted with the desk after the step; D-17: no row refuses an empty list, and
 -- no order stands in it
-unfoldable pub accept_of : ℕ → Desk → List ℕ → Answer
+unfoldable pub accept_of : ℕ → Desk → List ℕ → Accepting
 accept_of rest desk list =
     let refusal = list_refusal desk.places list in
     record { verdict = verdict_of refusal; desk = cond (eqb refusal 0) (step_of rest desk list) desk }

@@ -5,7 +5,7 @@ use mathlib.Core.List.{List, [], ◌++◌, append_assoc}
 use lib.ListN.{length, take, drop}
 use Rattle.frames.specs.Frames.{no_bare, whole_size, short_tail}
 use Rattle.frames.proofs.Splitting.{calls_more, tail_more, calls_none, tail-short, calls_end, tail-end}
-use Rattle.desk.specs.Desks.{Answer, base_rest, accept_of}
+use Rattle.desk.specs.Desks.{Accepting, base_rest, accept_of}
 use Rattle.desk.specs.declared.Desk.{Desk}
 use Rattle.desk_output.specs.Outputs.{short_list_line}
 use Rattle.desk_runs.specs.Runs.{lists_of, table_for, line_for, tables_from, refused_lines_from, tables_with, refused_lines_with}
@@ -13,7 +13,7 @@ use Rattle.desk_runs.specs.Runs.{lists_of, table_for, line_for, tables_from, ref
 module _ (desk : Desk) (before : ℕ) (input : List ℕ) where
   module _ (size : ℕ) (sized : size ≡ whole_size no_bare input) where
     -- what the desk answers to the first list
-    abbrev pub first : Answer
+    abbrev pub first : Accepting
     first = accept_of base_rest desk (take (size - 2) (drop 2 input))
 
     module _ (some : 1 ≤ size) where

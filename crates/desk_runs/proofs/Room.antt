@@ -8,7 +8,7 @@ use native.Mathlib.Omega.{arith}
 use Rattle.kit.specs.Each.{each}
 use Rattle.kit.specs.Ladder.{Decides, NoneHolds}
 use Rattle.kit.proofs.Ladder.{decides_such, decides_append}
-use Rattle.wire.specs.Verdicts.{Verdict, Accepted, Refused}
+use Rattle.wire.specs.Verdicts.{Verdict, verdict_accepted, verdict_refused}
 use Rattle.frames.specs.Frames.{Framed, no_bare, calls_of, short_tail}
 use Rattle.frames.proofs.Splitting.{calls_few, tail-most}
 use Rattle.places.specs.declared.Place.{Place}
@@ -24,12 +24,12 @@ use Rattle.desk_runs.specs.Runs.{lists_of, table_for, line_for, tables_from, ref
 -- ---- one list
 
 table-short : (verdict : Verdict) (desk : Desk) → length (table_for verdict desk) ≤ 130
-table-short Accepted desk = omega (arith, table-long desk)
-table-short (Refused number) desk = omega arith
+table-short verdict_accepted desk = omega (arith, table-long desk)
+table-short (verdict_refused number) desk = omega arith
 
-line_short : (verdict : Verdict) (list : ℕ) → ((number : ℕ) → verdict ≡ Refused number → number ≤ 8) → list < 10 ^ 20 → length (line_for verdict list) ≤ 64
-line_short Accepted list small counted = omega arith
-line_short (Refused number) list small counted = refused-short number list (omega (arith, small number refl)) counted
+line_short : (verdict : Verdict) (list : ℕ) → ((number : ℕ) → verdict ≡ verdict_refused number → number ≤ 8) → list < 10 ^ 20 → length (line_for verdict list) ≤ 64
+line_short verdict_accepted list small counted = omega arith
+line_short (verdict_refused number) list small counted = refused-short number list (omega (arith, small number refl)) counted
 
 -- R-18: the number of a refusal is that of one of the rows
 module _ (places : List Place) (list : List ℕ) where

@@ -1,6 +1,6 @@
 -- What comes of a whole input of lists: everything that the program run_desk writes, and the desk at the input's end.
 use Rattle.std.specs.Prelude.{ℕ, ◌+◌, List, [], ◌∷◌, ◌++◌, map}
-use Rattle.wire.specs.Verdicts.{Verdict, Accepted, Refused}
+use Rattle.wire.specs.Verdicts.{Verdict, verdict_accepted, verdict_refused}
 use Rattle.frames.specs.Frames.{Framed, no_bare, calls_of, short_tail}
 use Rattle.desk.specs.Desks.{base_rest, fresh_desk, accept_of}
 use Rattle.desk.specs.declared.Desk.{Desk}
@@ -14,13 +14,13 @@ lists_of input = map (λ (call : Framed). call.1) (calls_of no_bare input)
 
 -- D-02, W-03: the table after the step; a refused list gives none
 abbrev pub table_for : Verdict → Desk → List ℕ
-table_for Accepted desk = five_telegrams desk
-table_for (Refused number) desk = []
+table_for verdict_accepted desk = five_telegrams desk
+table_for (verdict_refused number) desk = []
 
 -- D-18: the line for a refused list; `list` is which one it is
 abbrev pub line_for : Verdict → ℕ → List ℕ
-line_for Accepted list = []
-line_for (Refused number) list = refused_list_line number list
+line_for verdict_accepted list = []
+line_for (verdict_refused number) list = refused_list_line number list
 
 -- ---- many lists, each handed to the desk as the one before it left it
 

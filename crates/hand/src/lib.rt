@@ -1,12 +1,11 @@
 // The set in hand, in the lent memory of a listener: the packets of one step that are held so far.
 #![tactic(auto)]
 
-ghost use Rattle.std.specs.Prelude.{◌≡◌, ◌++◌, map, ◌-◌, ◌≤◌};
+ghost use Rattle.std.specs.Prelude.{◌≡◌, ◌-◌, ◌≤◌};
 ghost use Rattle.std.proofs.lemmas.List.Edits.{sets};
-ghost use Rattle.kit.specs.Bytes.{word_bytes};
 ghost use Rattle.telegram.specs.Tables.{packets, first_packet};
 ghost use Rattle.telegram.specs.Telegrams.{packet_in};
-ghost use Rattle.memory.specs.Memory.{step_from, held_from, flag_byte, flags_at};
+ghost use Rattle.memory.specs.Memory.{step_from, flags_at};
 ghost use Rattle.hand.specs.Sets.{is_held, is_whole};
 ghost use Rattle.hand.specs.Lent.{hand_in, hand_bytes, begun_in, four_in, joined_in};
 

@@ -2,7 +2,6 @@
 // them, in a lent buffer.
 #![tactic(auto)]
 
-ghost use Rattle.std.specs.Prelude.{◌≡◌};
 ghost use Rattle.kit.specs.Put.{Poured};
 ghost use Rattle.hearing_runs.specs.Runs.{lines_heard};
 

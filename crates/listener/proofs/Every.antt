@@ -9,7 +9,7 @@ use Rattle.kit.proofs.Maps.{replicate-at}
 use Rattle.kit.proofs.Stores.{sets-each}
 use Rattle.condition.specs.Slots.{empty_slot, slot_count}
 use Rattle.condition.specs.declared.slots.Slot.{Slot}
-use Rattle.wire.specs.Verdicts.{Verdict, Accepted, Refused}
+use Rattle.wire.specs.Verdicts.{Verdict, verdict_accepted, verdict_refused}
 use Rattle.telegram.specs.Sendable.{slot_on}
 use Rattle.telegram.specs.Tables.{table_slot, first_slot}
 use Rattle.telegram.specs.Telegrams.{Reading, read_of}
@@ -64,8 +64,8 @@ module _ (P : Slot → Type 0) (empty : P empty_slot) where
         (record { picture = more; hand = begun_every 0 })
 
     after_every : (listener : Listener) (t : Telegram) (verdict : Verdict) → Every P listener → AllOn P t → Every P (after_reading verdict reach listener t).listener
-    after_every listener t Accepted s own = heard_every listener t s own
-    after_every listener t (Refused number) s own = s
+    after_every listener t verdict_accepted s own = heard_every listener t s own
+    after_every listener t (verdict_refused number) s own = s
 
     -- one telegram
     pub hear_every : (listener : Listener) (reading : Reading) → Every P listener → AllOn P reading.telegram → Every P (hear_of reach listener reading).listener

@@ -9,7 +9,7 @@ use Rattle.telegram.specs.Telegrams.{Reading}
 use Rattle.kit.proofs.Ladder.{ladder_decides, ladder-silent}
 use Rattle.kit.proofs.Maps.{replicate-at}
 use Rattle.condition.specs.Slots.{slot_count, empty_slot}
-use Rattle.wire.specs.Verdicts.{Accepted, Refused}
+use Rattle.wire.specs.Verdicts.{verdict_accepted, verdict_refused}
 use Rattle.telegram.specs.declared.Telegram.{Telegram}
 use Rattle.picture.specs.Pictures.{clashes}
 use Rattle.marks.specs.Marks.{marks_of}
@@ -23,12 +23,12 @@ use Rattle.hand.specs.declared.Hand.{Hand}
 
 module _ (reach : ℕ) (listener : Listener) where
   -- R-20, L-11: what the reader refuses is refused under its number and changes nothing
-  pub hear-refused : (reading : Reading) (number : ℕ) → reading.verdict ≡ Refused number → hear_of reach listener reading ≡ record { told = refused_as number; listener = listener }
+  pub hear-refused : (reading : Reading) (number : ℕ) → reading.verdict ≡ verdict_refused number → hear_of reach listener reading ≡ record { told = refused_as number; listener = listener }
   unfolding hear_of
   hear-refused reading number e = ap (λ v. after_reading v reach listener reading.telegram) e
 
   -- what it accepts is heard
-  pub hear_as : (reading : Reading) → reading.verdict ≡ Accepted → hear_of reach listener reading ≡ heard_of reach listener reading.telegram
+  pub hear_as : (reading : Reading) → reading.verdict ≡ verdict_accepted → hear_of reach listener reading ≡ heard_of reach listener reading.telegram
   unfolding hear_of
   hear_as reading e = ap (λ v. after_reading v reach listener reading.telegram) e
 

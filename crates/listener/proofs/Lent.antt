@@ -12,7 +12,7 @@ use Rattle.kit.proofs.Ladder.{refused-exactly, decides_such}
 use Rattle.kit.proofs.Maps.{replicate-at}
 use Rattle.condition.specs.Slots.{slot_count}
 use Rattle.condition.specs.declared.slots.Slot.{Slot}
-use Rattle.wire.specs.Verdicts.{Accepted, Refused as refusedBy}
+use Rattle.wire.specs.Verdicts.{verdict_accepted, verdict_refused as refusedBy}
 use Rattle.telegram.specs.Tables.{packets, first_packet}
 use Rattle.telegram.specs.Telegrams.{packet_in, step_in, telegram_of, read_rows, read_refusal, blank_telegram}
 use Rattle.telegram.specs.declared.Telegram.{Telegram}
@@ -270,7 +270,7 @@ module _ (memory telegram : List ℕ) where
             left.meant
             ∙ sym
             (ap (hear_of carries (listener_in memory)) (read-accepted telegram 0 (sym e) refl)
-            ∙ hear_as carries (listener_in memory) (record { verdict = Accepted; telegram = telegram_of telegram }) refl);
+            ∙ hear_as carries (listener_in memory) (record { verdict = verdict_accepted; telegram = telegram_of telegram }) refl);
         bytes = left.bytes;
       }
 

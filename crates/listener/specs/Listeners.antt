@@ -20,7 +20,7 @@
 use Rattle.std.specs.Prelude.{ℕ, Bool, false, not, ◌&&◌, None, Some, List, [], ◌∷◌, ◌++◌, get_or, replicate}
 use Rattle.kit.specs.Ladder.{ladder}
 use Rattle.condition.specs.Slots.{empty_slot, slot_count}
-use Rattle.wire.specs.Verdicts.{Verdict, Accepted, Refused}
+use Rattle.wire.specs.Verdicts.{Verdict, verdict_accepted, verdict_refused}
 use Rattle.telegram.specs.Telegrams.{Reading, read_rows, read_of}
 use Rattle.telegram.specs.declared.Telegram.{Telegram}
 use Rattle.picture.specs.Pictures.{count_of, clashes}
@@ -76,8 +76,8 @@ heard_of reach listener t =
 
 -- R-20, R-21, L-11: what the reader refuses is refused under the same number, and changes nothing; all else comes after
 abbrev pub after_reading : Verdict → ℕ → Listener → Telegram → Hearing
-after_reading (Refused number) reach listener t = record { told = refused_as number; listener = listener }
-after_reading Accepted reach listener t = heard_of reach listener t
+after_reading (verdict_refused number) reach listener t = record { told = refused_as number; listener = listener }
+after_reading verdict_accepted reach listener t = heard_of reach listener t
 
 -- M-1b: the answer to what was read from a telegram, and the next listener
 unfoldable pub hear_of : ℕ → Listener → Reading → Hearing

@@ -2,13 +2,13 @@
 // has no room in the lent buffer is dropped, and the answer is the place past what was put.
 #![tactic(auto)]
 
-ghost use Rattle.std.specs.Prelude.{◌+◌, ◌-◌, ◌*◌, ◌/◌, ◌≤◌, min, ◌≡◌, [], ◌∷◌, length, cond, ◌⊎◌, eqb};
+ghost use Rattle.std.specs.Prelude.{◌+◌, ◌-◌, ◌/◌, ◌≤◌, min, ◌≡◌, [], ◌∷◌, length, cond, ◌⊎◌, eqb};
 ghost use Rattle.kit.specs.Put.{Poured};
 ghost use Rattle.listener.specs.Lent.{listener_in, HeardIn};
 ghost use Rattle.listener.specs.Listeners.{carries};
 ghost use Rattle.listing_tables.specs.Tables.{heard_lines};
 ghost use Rattle.lister.specs.Hearings.{heard_by, lines_for};
-ghost use Rattle.lister.specs.Pieces.{most_tables, begun_lister, keeping, take_of, piece_lines, MadeByPieces};
+ghost use Rattle.lister.specs.Pieces.{begun_lister, keeping, take_of, piece_lines, MadeByPieces};
 ghost use Rattle.lister.specs.Lent.{HeardNext};
 
 use listener::{Answer, Listener};

@@ -14,7 +14,7 @@ use Rattle.kit.proofs.Loops.{count_most}
 use Rattle.condition.specs.Slots.{empty_slot, is_occupied, slot_count}
 use Rattle.condition.specs.declared.slots.Slot.{Slot}
 use Rattle.wire.specs.Steps.{steps, gap_of}
-use Rattle.wire.specs.Verdicts.{Verdict, Accepted, Refused}
+use Rattle.wire.specs.Verdicts.{Verdict, verdict_accepted, verdict_refused}
 use Rattle.telegram.specs.Sendable.{slot_on}
 use Rattle.telegram.specs.Tables.{table_slot}
 use Rattle.telegram.specs.Telegrams.{place_start, coded_at, read_refusal, read_rows, slot_at, telegram_of, blank_telegram, read_of}
@@ -52,7 +52,7 @@ unfolding telegram_of
 step_small bytes = read-either (λ t. t.step < steps) bytes (omega arith) (omega arith)
 
 -- R-20: the number of a refusal is that of one of the reader's rows
-verdict-small : (bytes : List ℕ) (number : ℕ) → (read_of bytes).verdict ≡ Refused number → number ≤ 15
+verdict-small : (bytes : List ℕ) (number : ℕ) → (read_of bytes).verdict ≡ verdict_refused number → number ≤ 15
 verdict-small bytes number e = let below = decides_such (λ n. n ≤ 14) (read_rows bytes) number (read-to_14 bytes) ((reading_refused bytes number).0 e) in omega arith
 
 -- ---- what is told
@@ -93,9 +93,9 @@ module _ (reach : ℕ) (listener : Listener) where
         gap = gap-small listener.last set.step;
       })
 
-  after_small : (t : Telegram) → t.step < steps → (verdict : Verdict) → ((number : ℕ) → verdict ≡ Refused number → number ≤ 15) → Small (after_reading verdict reach listener t).told
-  after_small t below Accepted most = heard-small t below
-  after_small t below (Refused number) most = record { number = most number refl; step = omega arith; conditions = omega arith; gap = omega arith }
+  after_small : (t : Telegram) → t.step < steps → (verdict : Verdict) → ((number : ℕ) → verdict ≡ verdict_refused number → number ≤ 15) → Small (after_reading verdict reach listener t).told
+  after_small t below verdict_accepted most = heard-small t below
+  after_small t below (verdict_refused number) most = record { number = most number refl; step = omega arith; conditions = omega arith; gap = omega arith }
 
   -- whatever the bytes
   pub hear-small : (bytes : List ℕ) → Small (hear_of reach listener (read_of bytes)).told

@@ -12,7 +12,7 @@ use Rattle.kit.specs.Bytes.{Bytes}
 use Rattle.kit.proofs.Cases.{on}
 use Rattle.kit.proofs.Loops.{count_most}
 use Rattle.condition.specs.Slots.{empty_slot}
-use Rattle.wire.specs.Verdicts.{Verdict, Accepted, Refused}
+use Rattle.wire.specs.Verdicts.{Verdict, verdict_accepted, verdict_refused}
 use Rattle.telegram.specs.Tables.{packets}
 use Rattle.telegram.specs.Telegrams.{read_of}
 use Rattle.telegram.specs.declared.Telegram.{Telegram}
@@ -88,8 +88,8 @@ module _ (reach : ℕ) (listener : Listener) where
   after_paid : (t : Telegram) (verdict : Verdict) → Small (after_reading verdict reach listener t).told → length (heard_lines (after_reading verdict reach listener t)) ≤ 639
       → Paid listener (after_reading verdict reach listener t)
   unfolding heard_lines
-  after_paid t Accepted small short = heard_paid t short
-  after_paid t (Refused number) small short = refusal_paid listener (record { told = refused_as number; listener = listener }) (refused-short number (omega (arith, small.number))) (omega arith)
+  after_paid t verdict_accepted small short = heard_paid t short
+  after_paid t (verdict_refused number) small short = refusal_paid listener (record { told = refused_as number; listener = listener }) (refused-short number (omega (arith, small.number))) (omega arith)
 
 module _ (listener : Listener) (narrow : Every Narrow listener) (telegram : List ℕ) (bytes : Bytes telegram) where
   next-narrow : Every Narrow (heard_by listener telegram).listener

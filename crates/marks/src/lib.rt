@@ -1,7 +1,7 @@
 // Which entries of the set in the lent memory of a listener are carried on from the picture before it.
 #![tactic(auto)]
 
-ghost use Rattle.std.specs.Prelude.{◌+◌, ◌<◌, ◌≤◌, true, ◌≡◌, length, get_or};
+ghost use Rattle.std.specs.Prelude.{◌+◌, ◌<◌, ◌≤◌, true, ◌≡◌, get_or};
 ghost use Rattle.kit.specs.Loops.{any};
 ghost use Rattle.condition.specs.Slots.{slot_count};
 ghost use Rattle.memory.specs.Memory.{kind_from, picture_in, set_in};

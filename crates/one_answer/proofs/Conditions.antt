@@ -2,7 +2,7 @@
 use mathlib.Core.Path.{refl, ap}
 use Rattle.kit.specs.Contracts.{OneAnswer}
 use Rattle.kit.proofs.Contracts.{agree}
-use Rattle.wire.proofs.Results.{number_in-apart, verdict_in-apart}
+use Rattle.wire.proofs.Results.{refusal_number-apart, verdict_in-apart}
 use Rattle.telegram.proofs.Readings.{reading_in-apart}
 use Rattle.kinds.proofs as kinds
 use Rattle.kinds.specs.contracts as kinds-contracts
@@ -38,7 +38,7 @@ pub condition-body_of : OneAnswer condition-contracts.body_of.ended condition.bo
 condition-body_of κs handed answer other lasts others p q = (agree p q, refl)
 
 pub condition-refusal_of : OneAnswer condition-contracts.refusal_of.ended condition.refusal_of.Reads.Learnt
-condition-refusal_of κs handed answer other lasts others p q = (number_in-apart answer other (agree p q), refl)
+condition-refusal_of κs handed answer other lasts others p q = (refusal_number-apart answer other (agree p q), refl)
 
 pub condition-coded_of : OneAnswer condition-contracts.coded_of.ended condition.coded_of.Reads.Learnt
 condition-coded_of κs handed answer other lasts others p q = (agree p q, refl)
@@ -57,7 +57,7 @@ telegram-four_of κs handed answer other lasts others p q = (agree p q, refl)
 -- ---- telegram_reader
 
 pub telegram_reader-refusal_of : OneAnswer telegram-reader-contracts.refusal_of.ended telegram-reader.refusal_of.Reads.Learnt
-telegram_reader-refusal_of κs handed answer other lasts others p q = (number_in-apart answer other (agree p q), refl)
+telegram_reader-refusal_of κs handed answer other lasts others p q = (refusal_number-apart answer other (agree p q), refl)
 
 pub telegram_reader-place_slot : OneAnswer telegram-reader-contracts.place_slot.ended telegram-reader.place_slot.Reads.Learnt
 telegram_reader-place_slot κs handed answer other lasts others p q = (agree p q, refl)

@@ -3,7 +3,7 @@ use mathlib.Core.Path.{refl, ap}
 use Rattle.kit.proofs.Cases.{given}
 use Rattle.kit.specs.Contracts.{OneAnswer}
 use Rattle.kit.proofs.Contracts.{agree, agree-poured}
-use Rattle.wire.proofs.Results.{number_in-apart, verdict_in-apart}
+use Rattle.wire.proofs.Results.{refusal_number-apart, verdict_in-apart}
 use Rattle.desk.proofs.Answers.{answer_in-apart}
 use Rattle.order_list.proofs as order-list
 use Rattle.order_list.specs.contracts as order-list-contracts
@@ -56,7 +56,7 @@ places-place_of κs handed answer other lasts others p q = (agree p q, refl)
 -- ---- orders
 
 pub orders-refusal_of : OneAnswer orders-contracts.refusal_of.ended orders.refusal_of.Reads.Learnt
-orders-refusal_of κs handed answer other lasts others p q = (number_in-apart answer other (agree p q), refl)
+orders-refusal_of κs handed answer other lasts others p q = (refusal_number-apart answer other (agree p q), refl)
 
 -- ---- resting
 

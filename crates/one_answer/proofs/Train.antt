@@ -7,8 +7,8 @@ use Rattle.kit.proofs.Contracts.{agree, agree-poured}
 use Rattle.claims.proofs.Demand1.{demand1}
 use Rattle.train_codes.proofs as train-codes
 use Rattle.train_codes.specs.contracts as train-codes-contracts
-use Rattle.wire.proofs.Results.{number_in-apart}
-use Rattle.train_telegram.proofs.Refusals.{reading_in-apart}
+use Rattle.wire.proofs.Results.{refusal_number-apart}
+use Rattle.train_telegram.proofs.Refusals.{train_reading_in-apart}
 use Rattle.train_telegram.proofs as train-telegram
 use Rattle.train_telegram.specs.contracts as train-telegram-contracts
 use Rattle.signals.proofs as signals
@@ -33,12 +33,12 @@ pub train_codes-isolation_of : OneAnswer train-codes-contracts.isolation_of.ende
 train_codes-isolation_of κs handed answer other lasts others p q = (agree p q, refl)
 
 pub train_codes-refusal_of : OneAnswer train-codes-contracts.refusal_of.ended train-codes.refusal_of.Reads.Learnt
-train_codes-refusal_of κs handed answer other lasts others p q = (number_in-apart answer other (agree p q), refl)
+train_codes-refusal_of κs handed answer other lasts others p q = (refusal_number-apart answer other (agree p q), refl)
 
 -- ---- train_telegram
 
 pub train_telegram-read : OneAnswer train-telegram-contracts.read.ended train-telegram.read.Reads.Learnt
-train_telegram-read κs handed answer other lasts others p q = (reading_in-apart answer other (agree p q), refl)
+train_telegram-read κs handed answer other lasts others p q = (train_reading_in-apart answer other (agree p q), refl)
 
 pub train_telegram-silent : OneAnswer train-telegram-contracts.states.States.silent.ended train-telegram.states.States.silent.Reads.Learnt
 train_telegram-silent κs handed answer other lasts others p q = (agree p q, refl)

@@ -5,7 +5,7 @@
 ghost use Rattle.std.specs.Prelude.{◌≡◌, ◌<◌, ◌≤◌};
 ghost use Rattle.kit.specs.Each.{each};
 ghost use Rattle.kit.specs.Ladder.{ladder};
-ghost use Rattle.wire.specs.Verdicts.{number_in};
+ghost use Rattle.wire.specs.Verdicts.{refusal_number};
 ghost use Rattle.order_list.specs.Lists.{is_listed, numbers_of};
 ghost use Rattle.orders.specs.Orders.{types_of, OfPlaces, is_retyped, order_rows, list_refusal};
 
@@ -54,7 +54,7 @@ fn order_refusal(
     j: u8,
 ) -> Result<(), Refusal>
     requires { (j < 20) × (numbers.now ≡ numbers_of list.now) }
-    ensures { OfPlaces live.now types.now (λ places. number_in result ≡ ladder 0 (order_rows places list.now j)) }
+    ensures { OfPlaces live.now types.now (λ places. refusal_number result ≡ ladder 0 (order_rows places list.now j)) }
 {
     let order = order_list::order_at(list, j);
     if order.number == 0 {
@@ -81,7 +81,7 @@ fn order_refusal(
 // The refusal of the first bad order of n.
 fn orders_refusal(places: [Place; 20], list: &[u8], n: u8) -> Result<(), Refusal>
     requires { n ≤ 20 }
-    ensures { number_in result ≡ ladder 0 (each (order_rows places list.now) 0 n) }
+    ensures { refusal_number result ≡ ladder 0 (each (order_rows places list.now) 0 n) }
 {
     let live = places::orders_of(places);
     let types = types_of(places);
@@ -95,7 +95,7 @@ fn orders_refusal(places: [Place; 20], list: &[u8], n: u8) -> Result<(), Refusal
 // The refusal of a list.
 #[tactic(auto, unfolding(kit::specs::Ladder::ladder, crate::specs::Orders::list_rows))]
 pub fn refusal_of(places: [Place; 20], list: &[u8]) -> Result<(), Refusal>
-    ensures { number_in result ≡ list_refusal places list.now }
+    ensures { refusal_number result ≡ list_refusal places list.now }
 {
     if list.len() % LENGTH != 0 {
         return Err(Refusal::NotWholeOrders);

@@ -12,7 +12,7 @@ use Rattle.kit.specs.Loops.{scan, fold}
 use Rattle.kit.proofs.Cases.{on}
 use Rattle.condition.specs.Slots.{body_of, coded_of}
 use Rattle.wire.specs.Steps.{steps, gap_of}
-use Rattle.wire.specs.Verdicts.{Accepted, verdict_of}
+use Rattle.wire.specs.Verdicts.{verdict_accepted, verdict_of}
 use Rattle.kinds.specs.Words.{is_considered, second_allowed, second_held}
 use Rattle.condition.specs.declared.slots.Body.TheVariants.{Area}
 use Rattle.order_list.specs.Lists.{order_at, listed_at}
@@ -57,9 +57,9 @@ abbrev pub fived : ℕ → Desk
 fived step = record { places = entry 1 ∷ entry 2 ∷ entry 3 ∷ entry 4 ∷ entry 5 ∷ replicate 15 free_place; ended = replicate 160 none_ended; last = 5; step = step }
 
 -- what the checker computes: the first call of a standing list, each later one, and the list of five
-computed : (accept_of base_rest (fresh_with base_rest) (order_bytes 1) ≡ record { verdict = Accepted; desk = stood 1 })
-    × ((step : ℕ) → accept_of base_rest (stood step) (order_bytes 1) ≡ record { verdict = Accepted; desk = stood ((step + 1) % steps) })
-    × ((step : ℕ) → accept_of base_rest (stood step) (order_list 5 1) ≡ record { verdict = Accepted; desk = fived ((step + 1) % steps) })
+computed : (accept_of base_rest (fresh_with base_rest) (order_bytes 1) ≡ record { verdict = verdict_accepted; desk = stood 1 })
+    × ((step : ℕ) → accept_of base_rest (stood step) (order_bytes 1) ≡ record { verdict = verdict_accepted; desk = stood ((step + 1) % steps) })
+    × ((step : ℕ) → accept_of base_rest (stood step) (order_list 5 1) ≡ record { verdict = verdict_accepted; desk = fived ((step + 1) % steps) })
 unfolding order_bytes order_list accept_of verdict_of coded_of fresh_with each ladder scan fold body_of second_held is_considered second_allowed order_at listed_at place_of order_rows is_retyped list_rows rests_by is_resting has_number next_number gap_of kept_among ended_entry ended_among seated seated_all step_of
 computed = (refl, (λ step. refl), (λ step. refl))
 

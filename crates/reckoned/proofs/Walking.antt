@@ -22,7 +22,7 @@ use Rattle.resting.specs.Rests.{rests_by, is_resting}
 use Rattle.numbers.specs.Numbers.{has_number, next_number}
 use Rattle.leaving.specs.Leaving.{kept_among, ended_entry, ended_among}
 use Rattle.arriving.specs.Arriving.{seated, seated_all}
-use Rattle.desk.specs.Desks.{Answer, base_rest, fresh_with, accept_of}
+use Rattle.desk.specs.Desks.{Accepting, base_rest, fresh_with, accept_of}
 use Rattle.desk.specs.Steps.{step_of}
 use Rattle.desk.specs.declared.Desk.{Desk}
 use Rattle.claims.specs.Calls.{desk_after, accepted, steps_made}
@@ -33,7 +33,7 @@ use Rattle.reckoned.proofs.Sameness.{same, same_equal}
 abbrev pub Walked : Type 0
 Walked = Desk × ℕ
 
-unfoldable pub counted : Answer → ℕ → Walked
+unfoldable pub counted : Accepting → ℕ → Walked
 counted answer made = (answer.desk, cond (eqb (number_of answer.verdict) 0) (suc made) made)
 
 abbrev pub onward : Walked → List ℕ → Walked

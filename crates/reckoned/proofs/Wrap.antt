@@ -19,7 +19,7 @@ use Rattle.resting.specs.Rests.{none_ended, rests_by, is_resting}
 use Rattle.numbers.specs.Numbers.{has_number, next_number}
 use Rattle.desk.specs.Desks.{base_rest, fresh_with, accept_of}
 use Rattle.claims.specs.Calls.{desk_after, steps_made}
-use Rattle.wire.specs.Verdicts.{Accepted, verdict_of}
+use Rattle.wire.specs.Verdicts.{verdict_accepted, verdict_of}
 use Rattle.claims.proofs.History.{accepted-more}
 use Rattle.orders.specs.Orders.{order_rows, is_retyped, list_rows}
 use Rattle.leaving.specs.Leaving.{kept_among, ended_entry, ended_among}
@@ -39,8 +39,8 @@ numbers_of desk = map (λ (p : Place). p.slot.number) desk.places
 -- what the checker computes: nine empty lists after the orders, one more at any step number, and the new order at any step number, each
 -- by the desk's own answer
 computed : (walked (empty_lists 9 ++ before_the_wrap) ≡ (quiet 22, 22))
-    × ((step : ℕ) → accept_of base_rest (quiet step) [] ≡ record { verdict = Accepted; desk = quiet ((step + 1) % steps) })
-    × ((step : ℕ) → accept_of base_rest (quiet step) (order_list 1 1000) ≡ record { verdict = Accepted; desk = step_of base_rest (quiet step) (order_list 1 1000) })
+    × ((step : ℕ) → accept_of base_rest (quiet step) [] ≡ record { verdict = verdict_accepted; desk = quiet ((step + 1) % steps) })
+    × ((step : ℕ) → accept_of base_rest (quiet step) (order_list 1 1000) ≡ record { verdict = verdict_accepted; desk = step_of base_rest (quiet step) (order_list 1 1000) })
     × ((step : ℕ) → numbers_of (step_of base_rest (quiet step) (order_list 1 1000)) ≡ alone 1)
 unfolding order_bytes order_list wholly_new empty_lists alone before_the_wrap each ladder scan fold body_of second_held is_considered second_allowed gap_of order_at listed_at place_of rests_by is_resting has_number next_number fresh_with walked counted accept_of verdict_of coded_of order_rows is_retyped list_rows kept_among ended_entry ended_among seated seated_all step_of
 computed = (refl, (λ step. refl), (λ step. refl), (λ step. refl))

@@ -7,7 +7,7 @@ use lib.Dec.{eqb}
 use lib.ListN.{length, length-append}
 use native.Mathlib.Omega.{arith}
 use Rattle.kit.proofs.Ladder.{decides_such}
-use Rattle.wire.specs.Verdicts.{Verdict, Accepted, Refused}
+use Rattle.wire.specs.Verdicts.{Verdict, verdict_accepted, verdict_refused}
 use Rattle.frames.specs.Frames.{Framed, calls_of, short_tail}
 use Rattle.frames.proofs.Splitting.{tail-most}
 use Rattle.train_codes.specs.Refusals.{train_rows}
@@ -26,14 +26,14 @@ abbrev Narrow : Updating → Type 0
 Narrow updating = (updating.noted.number < 256) × (updating.signals.misses < 256)
 
 -- R-22: the number of a refusal is that of one of the rows
-verdict-small : (telegram : List ℕ) (number : ℕ) → (train_reading telegram).verdict ≡ Refused number → number ≤ 17
+verdict-small : (telegram : List ℕ) (number : ℕ) → (train_reading telegram).verdict ≡ verdict_refused number → number ≤ 17
 unfolding train_rows
 verdict-small telegram number e = decides_such (λ n. n ≤ 17) (train_rows telegram) number (omega arith) ((reading_refused telegram number).0 e)
 
-reading_narrow : (signals : Signals) (verdict : Verdict) (states : States) → ((number : ℕ) → verdict ≡ Refused number → number ≤ 17) → Narrow (after_train_reading signals verdict states)
+reading_narrow : (signals : Signals) (verdict : Verdict) (states : States) → ((number : ℕ) → verdict ≡ verdict_refused number → number ≤ 17) → Narrow (after_train_reading signals verdict states)
 unfolding missed_by
-reading_narrow signals Accepted states small = (omega arith, omega arith)
-reading_narrow signals (Refused number) states small = (omega (arith, small number refl), omega arith)
+reading_narrow signals verdict_accepted states small = (omega arith, omega arith)
+reading_narrow signals (verdict_refused number) states small = (omega (arith, small number refl), omega arith)
 
 update-narrow : (signals : Signals) (present : Bool) (telegram : List ℕ) → Narrow (update_of signals present telegram)
 unfolding update_of missed_by

@@ -9,10 +9,9 @@ use native.Mathlib.Omega.{arith}
 use borrow.Author.Tests.{eqb-true, eqb-false, ltb-true, ltb-false, lt-ltb, le-ltb}
 use Rattle.kit.proofs.Cases.{on, clash}
 use Rattle.train_codes.specs.Refusals.{train_refusal}
-use Rattle.train_telegram.specs.Readings.{train_reading, Shows}
+use Rattle.train_telegram.specs.Readings.{train_reading, Shows, TrainReading}
 use Rattle.train_telegram.specs.States.{states_of, silent}
 use Rattle.train_telegram.specs.declared.states.States.{States}
-use Rattle.train_telegram.specs.Readings.{Reading}
 use Rattle.train_telegram.proofs.Showing.{states-show}
 use Rattle.train_telegram.proofs.Refusals.{read_refused, read-accepted}
 use Rattle.signals.specs.Answers.{Updating}
@@ -35,7 +34,7 @@ miss_misses signals true telegram e =
     (λ z. absurd (clash e (rw z refl)))
     (λ z.
     let number : ℕ = train_refusal telegram in
-    let r : (train_reading telegram).verdict ≡ _ = ap (λ (x : Reading). x.verdict) (read_refused telegram number refl (eqb-false number 0 z)) in
+    let r : (train_reading telegram).verdict ≡ _ = ap (λ (x : TrainReading). x.verdict) (read_refused telegram number refl (eqb-false number 0 z)) in
     ap (λ (u : Updating). u.signals) (update-refused signals telegram (train_reading telegram) refl number r))
 
 hit_says : (signals : Signals) (present : Bool) (telegram : List ℕ) → is_miss (present, telegram) ≡ false → (update_of signals present telegram).signals ≡ signals_with (states_of telegram) 0
@@ -44,8 +43,8 @@ hit_says signals true telegram e =
     on (eqb (train_refusal telegram) 0)
     (λ z.
     let r = read-accepted telegram (train_refusal telegram) refl (eqb-true (train_refusal telegram) 0 z) in
-    ap (λ (u : Updating). u.signals) (update-accepted signals telegram (train_reading telegram) refl (ap (λ (x : Reading). x.verdict) r))
-    ∙ ap (λ (x : Reading). signals_with x.states 0) r)
+    ap (λ (u : Updating). u.signals) (update-accepted signals telegram (train_reading telegram) refl (ap (λ (x : TrainReading). x.verdict) r))
+    ∙ ap (λ (x : TrainReading). signals_with x.states 0) r)
     (λ z. absurd (clash (rw z refl) e))
 
 -- one miss more

@@ -5,7 +5,7 @@ use mathlib.Core.List.{List, []}
 use mathlib.Core.Logic.{◌↔◌, inl}
 use mathlib.Core.Path.{◌≡◌, refl, sym, ap, ◌∙◌, subst}
 use Rattle.kit.specs.Ladder.{Decides, NoneHolds}
-use Rattle.wire.specs.Verdicts.{Verdict, Accepted, Refused}
+use Rattle.wire.specs.Verdicts.{Verdict, verdict_accepted, verdict_refused}
 use Rattle.train_codes.specs.Refusals.{train_rows}
 use Rattle.train_telegram.specs.Readings.{train_reading, Shows}
 use Rattle.train_telegram.specs.States.{states_of}
@@ -23,11 +23,11 @@ module _ (signals : Signals) (telegram : List ℕ) where
   noted = (update_of signals true telegram).noted
 
   -- an answer tells the verdict of reading
-  told : (verdict : Verdict) → (train_reading telegram).verdict ≡ verdict → ((number : ℕ) → noted ≡ refusal_under number → (train_reading telegram).verdict ≡ Refused number) × (noted ≡ acceptance → (train_reading telegram).verdict ≡ Accepted)
-  told (Refused n) e =
+  told : (verdict : Verdict) → (train_reading telegram).verdict ≡ verdict → ((number : ℕ) → noted ≡ refusal_under number → (train_reading telegram).verdict ≡ verdict_refused number) × (noted ≡ acceptance → (train_reading telegram).verdict ≡ verdict_accepted)
+  told (verdict_refused n) e =
       let is : noted ≡ refusal_under n = ap (λ (u : Updating). u.noted) (update-refused signals telegram (train_reading telegram) refl n e) in
-      (λ number a. e ∙ ap (λ (n : Noted). Refused n.number) (sym is ∙ a), λ a. absurd (acceptance_no_refusal n (sym a ∙ is)))
-  told Accepted e =
+      (λ number a. e ∙ ap (λ (n : Noted). verdict_refused n.number) (sym is ∙ a), λ a. absurd (acceptance_no_refusal n (sym a ∙ is)))
+  told verdict_accepted e =
       let is : noted ≡ acceptance = ap (λ (u : Updating). u.noted) (update-accepted signals telegram (train_reading telegram) refl e) in
       (λ number a. absurd (acceptance_no_refusal number (sym is ∙ a)), λ a. e)
 
@@ -51,7 +51,7 @@ module _ (signals : Signals) (telegram : List ℕ) where
   -- S-19: an accepted one gives the states that it says, and sets the count to 0
   pub accepted-says : noted ≡ acceptance → (update_of signals true telegram).signals ≡ signals_with (states_of telegram) 0
   accepted-says a =
-      let v : (train_reading telegram).verdict ≡ Accepted = (told (train_reading telegram).verdict refl).1 a in
+      let v : (train_reading telegram).verdict ≡ verdict_accepted = (told (train_reading telegram).verdict refl).1 a in
       ap (λ (u : Updating). u.signals) (update-accepted signals telegram (train_reading telegram) refl v) ∙ ap (λ (states : States). signals_with states 0) (accepted-states telegram v)
 
   -- M-2c, M-2e, S-12: each signal then has the state of the code in its own bits and no other: no invalid code shows as a valid state,

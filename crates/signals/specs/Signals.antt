@@ -1,6 +1,6 @@
 -- The record of signals: document 01, "Signals from the train", its last paragraph, sentence by sentence.
 use Rattle.std.specs.Prelude.{ℕ, ◌+◌, min, Bool, true, false, cond, List, [], ltb, Option, None, Some}
-use Rattle.wire.specs.Verdicts.{Verdict, Accepted, Refused}
+use Rattle.wire.specs.Verdicts.{Verdict, verdict_accepted, verdict_refused}
 use Rattle.train_telegram.specs.States.{silent}
 use Rattle.train_telegram.specs.Readings.{train_reading}
 use Rattle.train_telegram.specs.declared.states.States.{States}
@@ -24,8 +24,8 @@ fresh_signals = signals_with silent 0
 -- S-13, S-20: a refused telegram is a miss, and changes nothing else
 -- S-12, S-19: an accepted one gives every signal its own state, whatever it was before, and sets the count to 0
 abbrev pub after_train_reading : Signals → Verdict → States → Updating
-after_train_reading signals (Refused number) states = record { noted = refusal_under number; signals = missed_by signals }
-after_train_reading signals Accepted states = record { noted = acceptance; signals = signals_with states 0 }
+after_train_reading signals (verdict_refused number) states = record { noted = refusal_under number; signals = missed_by signals }
+after_train_reading signals verdict_accepted states = record { noted = acceptance; signals = signals_with states 0 }
 
 -- M-1b, S-14: the answer to a call and the next record. A call with no telegram is a miss, and no refusal.
 unfoldable pub update_of : Signals → Bool → List ℕ → Updating

@@ -3,7 +3,7 @@ use Prim.Native.Nat.{ℕ, ◌<◌}
 use mathlib.Core.List.{List, [], ◌∷◌}
 use native.Mathlib.Omega.{arith}
 use Rattle.wire.specs.Steps.{steps}
-use Rattle.wire.specs.Verdicts.{Verdict, Accepted, Refused}
+use Rattle.wire.specs.Verdicts.{Verdict, verdict_accepted, verdict_refused}
 use Rattle.telegram.specs.Telegrams.{read_of}
 use Rattle.telegram.specs.declared.Telegram.{Telegram}
 use Rattle.hand.specs.Sets.{begun, joined}
@@ -25,8 +25,8 @@ module _ (listener : Listener) (below : Below listener) where
       ways carries listener t (λ h number. Below h.listener) below (omega (arith, set-step listener.hand t.step)) (omega arith) (omega arith)
 
   after-below : (verdict : Verdict) (t : Telegram) → t.step < steps → Below (after_reading verdict carries listener t).listener
-  after-below Accepted t own = heard-below t own
-  after-below (Refused number) t own = below
+  after-below verdict_accepted t own = heard-below t own
+  after-below (verdict_refused number) t own = below
 
   next-below : (telegram : List ℕ) → Below (heard_by listener telegram).listener
   unfolding hear_of

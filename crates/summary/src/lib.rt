@@ -7,12 +7,10 @@ ghost use Rattle.kit.specs.Loops.{any};
 ghost use Rattle.kit.specs.Put.{Poured};
 ghost use Rattle.telegram.specs.Tables.{packets};
 ghost use Rattle.listener.specs.Answers.{refused_as, told_of};
-ghost use Rattle.listener.specs.Lent.{listener_in};
-ghost use Rattle.lister.specs.Hearings.{heard_by};
 ghost use Rattle.lister.specs.Pieces.{MadeByPieces};
 ghost use Rattle.summary.specs.Counts.{tally_of};
-ghost use Rattle.summary.specs.Tallies.{one_more, known_or, counted, counted_piece};
-ghost use Rattle.summary.specs.Summaries.{with_number, count_line, count_lines, refusal_line, refusal_part, refusal_parts, packet_held, packet_part, packet_parts, unfinished_line, unfinished_part, tail_part, summary_of};
+ghost use Rattle.summary.specs.Tallies.{counted, counted_piece};
+ghost use Rattle.summary.specs.Summaries.{with_number, count_line, count_lines, refusal_line, refusal_part, refusal_parts, packet_part, packet_parts, unfinished_line, unfinished_part, tail_part, summary_of};
 
 use hand::Hand;
 use listener::Answer;

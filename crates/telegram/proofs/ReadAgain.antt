@@ -14,7 +14,7 @@ use Rattle.kit.proofs.Loops.{scan-none}
 use Rattle.condition.specs.Slots.{slot_rows, slot_in, coding, coded_of, HeldBody}
 use Rattle.condition.specs.declared.slots.Body.{Body}
 use Rattle.condition.specs.declared.slots.Body.TheVariants.{Empty, Area, Traction, Current}
-use Rattle.wire.specs.Verdicts.{Accepted}
+use Rattle.wire.specs.Verdicts.{verdict_accepted}
 use Rattle.condition.proofs.Coding.{coded-silent, slot_in-back}
 use Rattle.telegram.specs.Telegrams.{place_start, coded_at, taken_before, taken_row, place_rows, read_rows, slot_at, telegram_of, read_of, bytes_of}
 use Rattle.telegram.specs.Sendable.{slot_on, Sendable}
@@ -79,7 +79,7 @@ module _ (t : Telegram) (s : Sendable t) where
       λ i. record { packet = packet-on t s.packet_to i; step = step-on t s.step_below i; slots = slots i }
 
   -- M-2d
-  pub read_again : read_of (bytes_of t) ≡ record { verdict = Accepted; telegram = t }
+  pub read_again : read_of (bytes_of t) ≡ record { verdict = verdict_accepted; telegram = t }
   read_again =
       read-accepted (bytes_of t) 0 (sym (ladder-silent 0 (read_rows (bytes_of t)) sent-silent)) refl
-      ∙ ap (λ m. record { verdict = Accepted; telegram = m }) meant
+      ∙ ap (λ m. record { verdict = verdict_accepted; telegram = m }) meant

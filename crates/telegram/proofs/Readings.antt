@@ -1,14 +1,13 @@
 -- Answers to a reading: no two tell the same, and each reading is that of an answer; and so each verdict on a writing.
-use Rattle.std.proofs.Common.{◌≡◌, ℕ, ◌≤◌, List, eqb, eqb-true, sym, refl, ap, arith, length}
+use Rattle.std.proofs.Common.{◌≡◌, ℕ, List, eqb, eqb-true, sym, refl, ap, arith, length}
 use borrow.Author.Tests.{eqb-false}
 use Rattle.std.specs.Prelude.{Result, Ok, Err}
-use Rattle.kit.specs.Ladder.{ladder}
 use Rattle.kit.proofs.Cases.{on}
-use Rattle.wire.specs.Verdicts.{Verdict, Accepted, Refused, number_of, row_number, verdict_in}
+use Rattle.wire.specs.Verdicts.{number_of, row_number, verdict_in}
 use Rattle.wire.specs.declared.refusals.Refusal.{Refusal}
 use Rattle.wire.proofs.Answers.{accepted_or_refused}
 use Rattle.wire.proofs.Results.{number_apart, row_of, row-number, answer_with, answered_with}
-use Rattle.telegram.specs.Telegrams.{Reading, read_rows, read_refusal, telegram_of, read_of, reading_in, write_refusal, write_verdict}
+use Rattle.telegram.specs.Telegrams.{Reading, read_refusal, telegram_of, read_of, reading_in, write_refusal, write_verdict}
 use Rattle.telegram.specs.declared.Telegram.{Telegram}
 use Rattle.telegram.proofs.Rows.{read_refused, read-accepted, read-most, write-most}
 

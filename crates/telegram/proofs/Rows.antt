@@ -15,7 +15,7 @@ use Rattle.condition.proofs.Coding.{slot-numbered}
 use Rattle.std.specs.Prelude.{Result}
 use Rattle.std.specs.Result.{IsErrAnd}
 use Rattle.std.proofs.lemmas.Result.{err_from_is_err_and}
-use Rattle.wire.specs.Verdicts.{Accepted, Refused, row_number, verdict_in}
+use Rattle.wire.specs.Verdicts.{verdict_accepted, verdict_refused, row_number, verdict_in}
 use Rattle.wire.specs.declared.refusals.Refusal.{Refusal}
 use Rattle.wire.proofs.Answers.{verdict-accepted, verdict-refused}
 use Rattle.wire.proofs.Results.{number_nonzero}
@@ -73,11 +73,11 @@ module _ (bytes : List ℕ) (k : ℕ) (coded : Coded) (same : coded ≡ coded_at
 
 -- the two ways of a reading: refused, with the blank telegram beside it, or accepted
 module _ (bytes : List ℕ) (number : ℕ) (same : number ≡ ladder 0 (read_rows bytes)) where
-  pub read_refused : (number ≡ 0 → ⊥) → read_of bytes ≡ record { verdict = Refused number; telegram = blank_telegram }
+  pub read_refused : (number ≡ 0 → ⊥) → read_of bytes ≡ record { verdict = verdict_refused number; telegram = blank_telegram }
   unfolding read_of
   read_refused n = rw (← same, verdict-refused number n, ne_eqb number 0 n) refl
 
-  pub read-accepted : number ≡ 0 → read_of bytes ≡ record { verdict = Accepted; telegram = telegram_of bytes }
+  pub read-accepted : number ≡ 0 → read_of bytes ≡ record { verdict = verdict_accepted; telegram = telegram_of bytes }
   unfolding read_of
   read-accepted e = rw (← same, verdict-accepted number e, eq-eqb number 0 e) refl
 
@@ -94,11 +94,11 @@ exit_reading answer refusal bytes p same =
 
 -- the two ways of a writing: refused, with the buffer as it was, or accepted, with all 26 bytes written
 module _ (t : Telegram) (buffer : List ℕ) (number : ℕ) (same : number ≡ ladder 0 (write_rows t.packet (length buffer))) where
-  pub write-refused : (number ≡ 0 → ⊥) → (write_verdict t buffer ≡ Refused number) × (written t buffer ≡ buffer)
+  pub write-refused : (number ≡ 0 → ⊥) → (write_verdict t buffer ≡ verdict_refused number) × (written t buffer ≡ buffer)
   unfolding write_verdict written
   write-refused n = (rw (← same, verdict-refused number n) refl, rw (← same, ne_eqb number 0 n) refl)
 
-  pub write-accepted : number ≡ 0 → (write_verdict t buffer ≡ Accepted) × (written t buffer ≡ bytes_of t)
+  pub write-accepted : number ≡ 0 → (write_verdict t buffer ≡ verdict_accepted) × (written t buffer ≡ bytes_of t)
   unfolding write_verdict written
   write-accepted e = (rw (← same, verdict-accepted number e) refl, rw (← same, eq-eqb number 0 e) refl)
 

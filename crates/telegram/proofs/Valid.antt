@@ -10,7 +10,7 @@ use borrow.Author.Tests.{eqb-true, eqb-false, ltb-false, lt-ltb, not-false}
 use Rattle.kit.specs.Bytes.{Bytes}
 use Rattle.kit.specs.Ladder.{ladder, NoneHolds}
 use Rattle.kit.proofs.Cases.{on, and_second}
-use Rattle.wire.specs.Verdicts.{Accepted}
+use Rattle.wire.specs.Verdicts.{verdict_accepted}
 use Rattle.telegram.proofs.Refusals.{reading_accepted}
 use Rattle.kit.proofs.Ladder.{ladder-silent, passed-exactly, silent_append, silent-each}
 use Rattle.kit.proofs.Loops.{any_none}
@@ -74,7 +74,7 @@ never_invalid bytes k =
     (four-each (λ n x. MayHold x) (λ n. empty_slot) (λ n below. refl) (λ n past. refl) k))
 
 -- what is accepted is what the bytes mean
-pub accepted-means : (bytes : List ℕ) → (read_of bytes).verdict ≡ Accepted → (read_of bytes).telegram ≡ telegram_of bytes
+pub accepted-means : (bytes : List ℕ) → (read_of bytes).verdict ≡ verdict_accepted → (read_of bytes).telegram ≡ telegram_of bytes
 accepted-means bytes accepted =
     let z : 0 ≡ ladder 0 (read_rows bytes) = sym (ladder-silent 0 (read_rows bytes) ((reading_accepted bytes).0 accepted)) in
     ap (λ r. r.telegram) (read-accepted bytes 0 z refl)
@@ -92,5 +92,5 @@ read_sendable bytes fits s =
       distinct = distinct-read bytes s;
     }
 
-pub accepted_sendable : (bytes : List ℕ) → Bytes bytes → (read_of bytes).verdict ≡ Accepted → Sendable (read_of bytes).telegram
+pub accepted_sendable : (bytes : List ℕ) → Bytes bytes → (read_of bytes).verdict ≡ verdict_accepted → Sendable (read_of bytes).telegram
 accepted_sendable bytes fits accepted = subst Sendable (sym (accepted-means bytes accepted)) (read_sendable bytes fits ((reading_accepted bytes).0 accepted))

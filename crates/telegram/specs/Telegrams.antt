@@ -6,7 +6,7 @@ use Rattle.kit.specs.Ladder.{ladder}
 use Rattle.kit.specs.Loops.{any}
 use Rattle.condition.specs.Slots.{empty_slot, slot_rows, slot_in, coded_of, six_of}
 use Rattle.wire.specs.Steps.{steps}
-use Rattle.wire.specs.Verdicts.{Verdict, Accepted, Refused, row_number, verdict_of}
+use Rattle.wire.specs.Verdicts.{Verdict, verdict_accepted, verdict_refused, row_number, verdict_of}
 use Rattle.wire.specs.declared.refusals.Refusal.{Refusal}
 use Rattle.condition.specs.declared.slots.Coded.{Coded}
 use Rattle.condition.specs.declared.slots.Slot.{Slot}
@@ -96,8 +96,8 @@ read_of bytes = record { verdict = verdict_of (read_refusal bytes); telegram = c
 
 -- C-12: what the code's answer says
 abbrev pub reading_in : Result Telegram Refusal → Reading
-reading_in (Ok telegram) = record { verdict = Accepted; telegram = telegram }
-reading_in (Err refusal) = record { verdict = Refused (row_number refusal); telegram = blank_telegram }
+reading_in (Ok telegram) = record { verdict = verdict_accepted; telegram = telegram }
+reading_in (Err refusal) = record { verdict = verdict_refused (row_number refusal); telegram = blank_telegram }
 
 -- ---- writing
 

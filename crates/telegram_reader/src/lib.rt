@@ -3,7 +3,7 @@
 
 ghost use Rattle.std.specs.Prelude.{◌≡◌, ◌<◌, ◌≤◌};
 ghost use Rattle.kit.specs.Ladder.{ladder};
-ghost use Rattle.wire.specs.Verdicts.{number_in};
+ghost use Rattle.wire.specs.Verdicts.{refusal_number};
 ghost use Rattle.telegram_reader.specs.Places.{place_slot};
 ghost use Rattle.telegram.specs.Telegrams.{coded_at, slot_at, taken_before, place_rows, read_refusal, telegram_of, read_of, reading_in};
 
@@ -43,7 +43,7 @@ fn taken_before(telegram: &[u8; 26], k: usize, number: u8) -> bool
 #[tactic(auto, unfolding(kit::specs::Ladder::ladder))]
 fn place_refusal(telegram: &[u8; 26], k: usize) -> Result<(), Refusal>
     requires { k < 4 }
-    ensures { number_in result ≡ ladder 0 (place_rows telegram.now k) }
+    ensures { refusal_number result ≡ ladder 0 (place_rows telegram.now k) }
 {
     let coded = coded_at(telegram, k);
     condition::refusal_of(coded)?;
@@ -55,7 +55,7 @@ fn place_refusal(telegram: &[u8; 26], k: usize) -> Result<(), Refusal>
 
 // The refusal of 26 bytes: their packet, and then the first bad place.
 fn refusal_within(telegram: &[u8; 26]) -> Result<(), Refusal>
-    ensures { number_in result ≡ read_refusal telegram.now }
+    ensures { refusal_number result ≡ read_refusal telegram.now }
 {
     if wire::word_at(telegram, 0) / STEPS < FIRST_PACKET as u16 {
         return Err(Refusal::NoTablePacket);
@@ -69,7 +69,7 @@ fn refusal_within(telegram: &[u8; 26]) -> Result<(), Refusal>
 // The refusal of a telegram: its length comes first.
 #[tactic(auto, unfolding(kit::specs::Ladder::ladder, telegram::specs::Telegrams::read_rows))]
 pub fn refusal_of(bytes: &[u8]) -> Result<(), Refusal>
-    ensures { number_in result ≡ read_refusal bytes.now }
+    ensures { refusal_number result ≡ read_refusal bytes.now }
 {
     match bytes.as_array::<26>() {
         Some(telegram) => refusal_within(telegram),

@@ -4,7 +4,7 @@
 ghost use Rattle.std.specs.Prelude.{◌≡◌, [], ◌∷◌, ◌+◌, ◌<◌, ◌≤◌, length};
 ghost use Rattle.kit.specs.Bytes.{word_bytes};
 ghost use Rattle.kit.specs.Put.{Put};
-ghost use Rattle.wire.specs.Verdicts.{number_in, verdict_in};
+ghost use Rattle.wire.specs.Verdicts.{refusal_number, verdict_in};
 ghost use Rattle.condition.specs.Slots.{coded_of, six_of};
 ghost use Rattle.telegram.specs.Telegrams.{bytes_of, write_refusal, write_verdict, written};
 
@@ -55,7 +55,7 @@ fn put_telegram(buffer: &mut [u8], telegram: Telegram)
 // The refusal of a packet number and a buffer's length.
 #[tactic(auto, unfolding(kit::specs::Ladder::ladder))]
 fn refusal_of(packet: u8, room: usize) -> Result<(), Refusal>
-    ensures { number_in result ≡ write_refusal packet room }
+    ensures { refusal_number result ≡ write_refusal packet room }
 {
     if !(FIRST_PACKET..=LAST_PACKET).contains(&packet) {
         return Err(Refusal::NoSuchPacket);

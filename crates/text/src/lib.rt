@@ -2,7 +2,7 @@
 // dropped, so that no function asks anything of its caller; each answers the place past what it put.
 #![tactic(auto)]
 
-ghost use Rattle.std.specs.Prelude.{[], ◌∷◌, length, take, ◌+◌, ◌<◌, ◌≤◌};
+ghost use Rattle.std.specs.Prelude.{[], ◌∷◌, ◌+◌, ◌<◌};
 ghost use Rattle.kit.specs.Put.{Put, Poured};
 ghost use Rattle.text.specs.Decimals.{decimal};
 

@@ -1,7 +1,7 @@
 // Which telegrams from the train are refused: 10, 16, 17.
 ghost use Rattle.std.specs.Prelude.{◌≡◌};
 ghost use Rattle.train_codes.specs.Refusals.{rest_set, zero_bit_set, train_refusal};
-ghost use Rattle.wire.specs.Verdicts.{number_in};
+ghost use Rattle.wire.specs.Verdicts.{refusal_number};
 
 use wire::Refusal;
 
@@ -38,7 +38,7 @@ fn zero_bit_set(telegram: &[u8; LENGTH]) -> bool
 // Whether a telegram is refused, and why.
 #[tactic(auto, unfolding(crate::specs::Refusals::train_rows, kit::specs::Ladder::ladder))]
 pub fn refusal_of(telegram: &[u8]) -> Result<(), Refusal>
-    ensures { number_in result ≡ train_refusal telegram.now }
+    ensures { refusal_number result ≡ train_refusal telegram.now }
 {
     let Ok(telegram) = <&[u8; LENGTH]>::try_from(telegram) else {
         return Err(Refusal::Length);

@@ -1,7 +1,7 @@
--- Reading a telegram from the train: its refusal or its states, and what it is that states show a telegram.
+-- TrainReading a telegram from the train: its refusal or its states, and what it is that states show a telegram.
 use Rattle.std.specs.Prelude.{ℕ, ◌%◌, ◌<◌, cond, List, ◌↔◌, ◌≡◌, eqb, get_or, Result, Ok, Err}
 use Rattle.kit.specs.Bytes.{bit, word_at, long_at}
-use Rattle.wire.specs.Verdicts.{Verdict, Accepted, Refused, row_number, verdict_of}
+use Rattle.wire.specs.Verdicts.{Verdict, verdict_accepted, verdict_refused, row_number, verdict_of}
 use Rattle.wire.specs.declared.refusals.Refusal.{Refusal}
 use Rattle.train_codes.specs.Origins.{CabCode, BrakeCode, IsolationCode, TractionCode}
 use Rattle.train_codes.specs.Refusals.{train_refusal}
@@ -13,17 +13,17 @@ use Rattle.train_telegram.specs.States.{states_of, silent}
 use Rattle.train_telegram.specs.declared.states.States.{States}
 
 -- C-12: the answer to a telegram, and the states that it says
-pub record Reading : Type 0 where
+pub record TrainReading : Type 0 where
   pub verdict : Verdict
   pub states : States
 
 -- C-12: what the code's answer says; beside a refusal every signal is silent
-abbrev pub reading_in : Result States Refusal → Reading
-reading_in (Ok states) = record { verdict = Accepted; states = states }
-reading_in (Err refusal) = record { verdict = Refused (row_number refusal); states = silent }
+abbrev pub train_reading_in : Result States Refusal → TrainReading
+train_reading_in (Ok states) = record { verdict = verdict_accepted; states = states }
+train_reading_in (Err refusal) = record { verdict = verdict_refused (row_number refusal); states = silent }
 
 -- W-05, S-12, C-12: the answer, and the states that are said; beside a refusal every signal is silent
-unfoldable pub train_reading : List ℕ → Reading
+unfoldable pub train_reading : List ℕ → TrainReading
 train_reading t = record { verdict = verdict_of (train_refusal t); states = cond (eqb (train_refusal t) 0) (states_of t) silent }
 
 -- M-2c, M-2e, S-12: these states show a telegram: each signal has the state whose code stands in its own bits, and no other

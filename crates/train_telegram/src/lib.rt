@@ -4,7 +4,7 @@
 mod states;
 
 ghost use Rattle.std.specs.Prelude.{◌≡◌};
-ghost use Rattle.train_telegram.specs.Readings.{reading_in, train_reading};
+ghost use Rattle.train_telegram.specs.Readings.{train_reading_in, train_reading};
 
 pub use states::States;
 use wire::Refusal;
@@ -12,7 +12,7 @@ use wire::Refusal;
 // What a telegram of any bytes and any length says, or its refusal.
 #[tactic(auto, using(crate::proofs::Refusals::reading_refused_by, crate::proofs::Refusals::reading_accepted_by))]
 pub fn read(telegram: &[u8]) -> Result<States, Refusal>
-    ensures { reading_in result ≡ train_reading telegram.now }
+    ensures { train_reading_in result ≡ train_reading telegram.now }
 {
     train_codes::refusal_of(telegram)?;
     Ok(states::states_of(telegram))

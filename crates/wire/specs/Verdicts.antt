@@ -28,8 +28,8 @@ row_number Refusal'.ZeroBit = 17
 
 -- C-12: accepted, or refused under a number
 pub data Verdict : Type 0 where
-  Accepted : Verdict
-  Refused : ℕ → Verdict
+  verdict_accepted : Verdict
+  verdict_refused : ℕ → Verdict
 
 -- C-12: whether it is refused, and the number of the refusal, 0 where nothing is refused
 pub record Ruling : Type 0 where
@@ -44,8 +44,8 @@ ruled_refused number = record { refused = true; number = number }
 
 -- C-12: what each case of a verdict tells
 abbrev pub ruling_of : Verdict → Ruling
-ruling_of Accepted = ruled_accepted
-ruling_of (Refused number) = ruled_refused number
+ruling_of verdict_accepted = ruled_accepted
+ruling_of (verdict_refused number) = ruled_refused number
 
 -- C-12: the number that a verdict gives, 0 where nothing is refused
 abbrev pub number_of : Verdict → ℕ
@@ -53,13 +53,13 @@ number_of verdict = (ruling_of verdict).number
 
 -- C-12: the verdict with a number
 unfoldable pub verdict_of : ℕ → Verdict
-verdict_of number = cond (number == 0) Accepted (Refused number)
+verdict_of number = cond (number == 0) verdict_accepted (verdict_refused number)
 
 -- C-12: what the code's answer says: the number of the refusal, 0 where there is none; and the verdict
-abbrev pub number_in : {A : Type 0} → Result A Refusal → ℕ
-number_in (Ok value) = 0
-number_in (Err refusal) = row_number refusal
+abbrev pub refusal_number : {A : Type 0} → Result A Refusal → ℕ
+refusal_number (Ok value) = 0
+refusal_number (Err refusal) = row_number refusal
 
 abbrev pub verdict_in : {A : Type 0} → Result A Refusal → Verdict
-verdict_in (Ok value) = Accepted
-verdict_in (Err refusal) = Refused (row_number refusal)
+verdict_in (Ok value) = verdict_accepted
+verdict_in (Err refusal) = verdict_refused (row_number refusal)

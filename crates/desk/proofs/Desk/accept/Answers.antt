@@ -6,7 +6,7 @@ use lib.ListN.{length}
 use native.Mathlib.Omega.{arith}
 use borrow.Author.Rules.{rules}
 use Rattle.wire.specs.Steps.{steps}
-use Rattle.wire.specs.Verdicts.{Accepted, Refused, row_number}
+use Rattle.wire.specs.Verdicts.{verdict_accepted, verdict_refused, row_number}
 use Rattle.wire.specs.declared.refusals.Refusal.{Refusal}
 use Rattle.wire.proofs.Results.{number-positive}
 use Rattle.order_list.specs.Lists.{order_count}
@@ -18,18 +18,18 @@ use Rattle.leaving.specs.declared.Remains.{Remains}
 use Rattle.arriving.specs.Arriving.{seated_all}
 use Rattle.arriving.specs.declared.Seats.{Seats}
 use Rattle.desk.specs.declared.Desk.{Desk}
-use Rattle.desk.specs.Desks.{Answer, base_rest, accept_of}
+use Rattle.desk.specs.Desks.{Accepting, base_rest, accept_of}
 use Rattle.desk.specs.Steps.{next_step, step_of}
 use Rattle.desk.proofs.Making.{accepts, refuses, made-sound}
 use Rattle.desk.proofs.Desk.accept.Goals as goal
 
 module _ (desk : Desk) (list : List ℕ) where
   refusing : (refusal : Refusal) → row_number refusal ≡ list_refusal desk.places list
-      → ◌≡◌ {A = Answer} (record { verdict = Refused (row_number refusal); desk = desk }) (accept_of base_rest desk list)
+      → ◌≡◌ {A = Accepting} (record { verdict = verdict_refused (row_number refusal); desk = desk }) (accept_of base_rest desk list)
   refusing refusal e = let one : 1 ≤ row_number refusal = number-positive refusal in rw e (sym (refuses base_rest desk list (λ z. omega (arith, one, e, z))))
 
   accepting : (next : Desk) → list_refusal desk.places list ≡ 0 → next ≡ step_of base_rest desk list
-      → ◌≡◌ {A = Answer} (record { verdict = Accepted; desk = next }) (accept_of base_rest desk list)
+      → ◌≡◌ {A = Accepting} (record { verdict = verdict_accepted; desk = next }) (accept_of base_rest desk list)
   accepting next z s = rw s (sym (accepts base_rest desk list z))
 
 stepped : (desk : Desk) (list : List ℕ) (left : Remains) (seats : Seats)
