@@ -9,7 +9,8 @@ use wire::Refusal;
 // How many slots a table has.
 pub const SLOTS: usize = 20;
 
-// What a slot holds. That it is empty is this enum's word, and not that its number is 0.
+// What a slot holds. That it is empty is this enum's word, and not that its number is 0. The type of an area is a number: `listener_in` finds
+// any byte in a lent memory.
 #[derive(Clone, Copy)]
 pub enum Body {
     Empty,

@@ -29,7 +29,8 @@ const LIMIT_MOST: u16 = 1000;
 
 const NO_RESTRICTION: u16 = 1023;
 
-// Whether a number is a type of condition, 1 to 9.
+// Whether a number is a type of condition, 1 to 9. A type is a number and no enum, here and in slots and orders: any byte may stand in a
+// telegram, a list or a lent memory, and each function of this crate answers for every one.
 pub fn is_kind(kind: u8) -> bool
     ensures { result ≡ is_type kind }
 {

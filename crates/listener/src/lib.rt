@@ -25,7 +25,8 @@ pub struct Listener {
 }
 
 // What a telegram was: refused under a number of document 01, a repeat, held for a set that is not yet whole, or the last one of a
-// table that was taken, with its step number, how many conditions it has, and the gap from the table before it.
+// table that was taken, with its step number, how many conditions it has, and the gap from the table before it. The refusal is a number of
+// any size, and no `Refusal`, since `put_heard` of listing_tables and `Tally::count` of summary take every number.
 #[derive(Clone, Copy)]
 pub enum Answer {
     Refused(u8),

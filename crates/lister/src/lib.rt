@@ -15,7 +15,8 @@ use listener::{Answer, Listener};
 use telegram::LENGTH;
 
 // What is kept from one piece to the next: the listener, how many tables it has taken, and the first bytes of a telegram that is not
-// yet whole; zeros follow them.
+// yet whole; zeros follow them. No heap, so that the bytes have a count beside them; and the record stays as it is, since `finish` of listing
+// and `put` of summary take whatever it holds.
 #[derive(Clone, Copy)]
 pub struct Lister {
     pub listener: Listener,

@@ -27,7 +27,7 @@ pub const MARKS: usize = 140;
 
 pub const SET: usize = 170;
 
-// What a slot holds.
+// What a slot holds. A number says which, since it is a byte of the memory (specs/Memory.antt).
 #[tactic(auto, unfolding(crate::specs::Memory::body_from))]
 fn body_of(shape: u8, own: u8, first: u16, second: u16) -> Body
     ensures { result ≡ body_from shape own first second }

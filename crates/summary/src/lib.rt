@@ -19,7 +19,7 @@ use telegram::LENGTH;
 
 // How many telegrams, tables and repeats there were; for each number how many telegrams were refused under it, and the place of the
 // first of them, counted from 1, or 0 where there was none. Refusals have numbers up to 15. A count stays at the greatest number that it
-// can hold.
+// can hold. Two arrays, and not one of pairs: `count` and `put` take whatever they hold, and a place without a count is such a record.
 #[derive(Clone, Copy)]
 pub struct Tally {
     pub telegrams: u64,

@@ -5,7 +5,8 @@ ghost use Rattle.wire.specs.Distances.{distance_of};
 // The word that means no value. 7FFFh and 8001h, the words beside it, are ordinary distances.
 pub const NO_VALUE: u16 = 0x8000;
 
-// What a word says: no value, so many metres (0 to 32,767), or so many metres below zero (1 to 32,767).
+// What a word says: no value, so many metres (0 to 32,767), or so many metres below zero (1 to 32,767). Three cases, and no Option of a signed
+// number: the pages say a distance by them (InRange, distance_word), without signs.
 #[derive(Clone, Copy)]
 pub enum Distance {
     Missing,
