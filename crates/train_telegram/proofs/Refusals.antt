@@ -1,4 +1,4 @@
--- TrainReading: each refusal is given exactly when its row holds and no earlier one does (R-22, R-23), and what stands beside it.
+-- Reading: each refusal is given exactly when its row holds and no earlier one does (R-22, R-23), and what stands beside it.
 use Prim.Native.Nat.{ℕ, ◌≤◌}
 use native.Mathlib.Omega.{arith}
 use mathlib.Core.List.{List}

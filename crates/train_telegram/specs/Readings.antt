@@ -1,4 +1,4 @@
--- TrainReading a telegram from the train: its refusal or its states, and what it is that states show a telegram.
+-- Reading a telegram from the train: its refusal or its states, and what it is that states show a telegram.
 use Rattle.std.specs.Prelude.{ℕ, ◌%◌, ◌<◌, cond, List, ◌↔◌, ◌≡◌, eqb, get_or, Result, Ok, Err}
 use Rattle.kit.specs.Bytes.{bit, word_at, long_at}
 use Rattle.wire.specs.Verdicts.{Verdict, verdict_accepted, verdict_refused, row_number, verdict_of}
