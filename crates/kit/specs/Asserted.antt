@@ -1,10 +1,11 @@
 -- What a contract says of a function that is lent a record to change it. In plain words it is what Contracts.antt says of the others:
 -- `PromisedLent` that each outcome that the contract allows is such, `OneAnswerLent` that the contract allows one outcome.
 --
--- It takes more words here because the checker makes no `Learnt`, no plain fact, of such a contract. Its `ensures` is an assertion about
--- memory, over a model of the machine: the algebra `𝓤` of what can be owned, with its heap `H`, its atoms `A`, and what it says of memory
--- and of routines, `mem` and `run`. `ent 𝓤 said (fact 𝓤 φ)` reads: wherever `said` is asserted, φ is a fact. So what is promised is
--- what follows from the contract in every model, whatever the model is.
+-- It takes more words here because the `ensures` of such a contract is an assertion about memory, over a model of the machine: the algebra
+-- `𝓤` of what can be owned, the heap and the atoms with the laws that they keep, which are the record `𝓛`, and what the model says of
+-- memory and of routines, `mem` and `run`. `ent 𝓤 said (fact 𝓤 φ)` reads: wherever `said` is asserted, φ is a fact. So what is promised is
+-- what follows from the contract in every model, whatever the model is. The checker makes a `Learnt`, a plain fact, of such a contract too;
+-- one_answer/proofs/Train.antt has it beside this.
 --
 -- One spelt out: `signals_in_place::update(held, present, telegram)`, which is lent a record of signals. Its contract says that the answer
 -- and the record afterwards are those that `update_of` gives for the record before, `present` and the telegram's bytes. So

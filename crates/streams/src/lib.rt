@@ -1,6 +1,7 @@
 // The calls of the system that all programs share: arguments, the input, reads and writes, and the line on a call that failed. What is read,
 // and whether a call fails, no contract can say; what follows from it is decided by `outcomes`, and what is said by `program`.
-// They take the runtime itself and no bound on it: under a bound the check counts what every function of that trait assumes of the system.
+// `System` holds the runtime itself and no bound on it: under a bound the check counts what every function of that trait assumes of the
+// system.
 #![tactic(auto)]
 
 mod arguments;
