@@ -1,3 +1,4 @@
 pub mod Copies
 pub mod Numerals
 pub mod ReadBack
+pub mod Putting

@@ -1,3 +1,4 @@
 pub mod Decimals
 pub mod Hexadecimals
 pub mod Words
+pub mod Putting

@@ -6,6 +6,10 @@ ghost use Rattle.std.specs.Prelude.{[], ◌∷◌, ◌+◌, ◌<◌};
 ghost use Rattle.kit.specs.Put.{Put, Poured};
 ghost use Rattle.text.specs.Decimals.{decimal};
 
+mod sheets;
+
+pub use sheets::Sheet;
+
 // What stands between words, and what ends a line.
 pub const BLANK: u8 = b' ';
 
