@@ -1,10 +1,10 @@
 -- The bytes that were printed for the recording so far, piece by piece: every piece has room for all its lines, so that what was put is all that
 -- is printed.
-use Prim.Native.Nat.{ℕ, ◌+◌, ◌≤◌, min}
+use Prim.Native.Nat.{ℕ, ◌+◌, ◌≤◌, min, ◌-◌}
 use mathlib.Core.Path.{◌≡◌, refl, sym, ap, ◌∙◌, subst, subst⁻¹}
 use mathlib.Core.Logic.{◌↔◌}
 use mathlib.Core.List.{List, [], ◌∷◌, ◌++◌, append_assoc, append-nil}
-use lib.ListN.{length, length-append}
+use lib.ListN.{length, length-append, take, drop, length-take}
 use lib.Seq.{take_at, drop_at}
 use native.Mathlib.Omega.{arith}
 use Rattle.kit.specs.Bytes.{Bytes}
@@ -19,6 +19,7 @@ use Rattle.listing.proofs.Whole.{in_one}
 use Rattle.listing_room.proofs.Lines.{header_long}
 use Rattle.listing_room.proofs.Room.{after_all, piece_short, end_room_lem, listing-short}
 use Rattle.listing_length.specs.Lengths.{most_length, listing_length, piece_size, piece_lines_room}
+use Rattle.lister.proofs.Phases.{bytes-to, lines-to}
 
 -- the bytes of the header and of the lines, of the part of a recording that came so far
 abbrev bytes_so_far : List ℕ → ℕ
@@ -112,3 +113,33 @@ length-exact recording fits small = omega (arith, listing-short recording fits (
 pub whole-told : (recording : List ℕ) → Bytes recording → length recording ≤ 0x2000000000000000 → {before after : List ℕ} {put : ℕ} → Poured before 0 (listing recording) after put
     → (put ≡ listing_length recording) ↔ (length (listing recording) ≤ length before)
 whole-told recording fits small poured = (λ same. omega (arith, same, poured.past, length-exact recording fits small), λ room. omega (arith, room, poured.past, length-exact recording fits small))
+
+-- ---- laws that docs/PORT.md names: the code's loop went, the laws hold as they did
+
+module _ (recording : List ℕ) where
+  -- the bytes of the header and of the lines, so far
+  abbrev pub so_far : ℕ → ℕ
+  so_far from = bytes_so_far (take from recording)
+
+  pub header_counted : {bytes : ℕ} → bytes ≡ min (0 + length header_line) piece_lines_room → bytes ≡ so_far 0
+  header_counted put = (so_far-none {recording} refl put).counted
+
+  module _ (fits : Bytes recording) where
+    -- one piece more
+    pub piece_counted : {from to : ℕ} {lister : Lister} {bytes next room : ℕ} → from ≤ to → to - from ≤ piece_size → lister ≡ take_of begun_lister (take from recording) → bytes ≡ so_far from
+        → room ≡ piece_lines_room → next ≡ min (bytes + min (length (piece_lines lister (take (to - from) (drop from recording)))) room) most_length → next ≡ so_far to
+    piece_counted {from} {to} {lister} {bytes} {next} {room} forth small same before size sum =
+        let before_it = take from recording in
+        let piece = take (to - from) (drop from recording) in
+        let both : Bytes (before_it ++ piece) = subst Bytes (bytes-to begun_lister recording forth) (take-bytes to recording fits) in
+        let few : length piece ≤ piece_size = omega (arith, length-take (to - from) (drop from recording)) in
+        omega (
+          arith,
+          before,
+          sum,
+          size,
+          ap length (lines-to begun_lister recording forth same),
+          length-append (piece_lines begun_lister before_it) (piece_lines lister piece),
+          ap (λ (s : Lister). length (piece_lines s piece)) same,
+          piece_room_lem before_it piece both few,
+        )
