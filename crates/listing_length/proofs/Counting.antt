@@ -122,7 +122,7 @@ module _ (recording : List ℕ) where
   so_far from = bytes_so_far (take from recording)
 
   pub header_counted : {bytes : ℕ} → bytes ≡ min (0 + length header_line) piece_lines_room → bytes ≡ so_far 0
-  header_counted put = (so_far-none {recording} refl put).counted
+  header_counted put = omega (arith, put, header_long, ap length (lines_none begun_kept))
 
   module _ (fits : Bytes recording) where
     -- one piece more
