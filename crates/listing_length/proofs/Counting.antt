@@ -1,10 +1,10 @@
 -- The bytes that were printed for the recording so far, piece by piece: every piece has room for all its lines, so that what was put is all that
 -- is printed.
-use Prim.Native.Nat.{ℕ, ◌+◌, ◌≤◌, min, ◌-◌}
+use Prim.Native.Nat.{ℕ, ◌+◌, ◌-◌, ◌≤◌, min}
 use mathlib.Core.Path.{◌≡◌, refl, sym, ap, ◌∙◌, subst, subst⁻¹}
 use mathlib.Core.Logic.{◌↔◌}
 use mathlib.Core.List.{List, [], ◌∷◌, ◌++◌, append_assoc, append-nil}
-use lib.ListN.{length, length-append, take, drop, length-take}
+use lib.ListN.{length, take, drop, length-take, length-append}
 use lib.Seq.{take_at, drop_at}
 use native.Mathlib.Omega.{arith}
 use Rattle.kit.specs.Bytes.{Bytes}
@@ -14,12 +14,12 @@ use Rattle.listing_lines.specs.Lines.{header_line}
 use Rattle.lister.specs.Pieces.{most_tables, begun_lister, take_of, piece_lines, MadeByPieces, made_begun, taken_piece}
 use Rattle.lister.specs.declared.Lister.{Lister}
 use Rattle.lister.proofs.Kept.{begun_kept, take_none, lines_none, take-then, lines-of-then}
+use Rattle.lister.proofs.Phases.{bytes-to, lines-to}
 use Rattle.listing.specs.Listings.{listing, end_of}
 use Rattle.listing.proofs.Whole.{in_one}
 use Rattle.listing_room.proofs.Lines.{header_long}
 use Rattle.listing_room.proofs.Room.{after_all, piece_short, end_room_lem, listing-short}
 use Rattle.listing_length.specs.Lengths.{most_length, listing_length, piece_size, piece_lines_room}
-use Rattle.lister.proofs.Phases.{bytes-to, lines-to}
 
 -- the bytes of the header and of the lines, of the part of a recording that came so far
 abbrev bytes_so_far : List ℕ → ℕ

@@ -1,15 +1,15 @@
 -- What the heads of two slots say of their first three bytes, and what products of flags are.
-use Prim.Native.Nat.{ℕ, ◌+◌, ◌%◌, ◌*◌, ◌/◌, ◌≤◌}
+use Prim.Native.Nat.{ℕ, ◌+◌, ◌*◌, ◌/◌, ◌%◌, ◌≤◌}
 use mathlib.Core.Path.{◌≡◌, refl}
+use mathlib.Core.Bool.{Bool, true, false, cond, not, ◌&&◌}
 use mathlib.Core.List.{List}
 use lib.Dec.{eqb}
 use lib.ListN.{get_or}
+use mir.Val.{bool_byte}
 use native.Mathlib.Omega.{arith}
 use Rattle.std.proofs.lemmas.Grind.{common_steps}
 use Rattle.memory.specs.Memory.{set_from, slot_place}
 use Rattle.marks.specs.Lent.{IsHead, is_alike}
-use mathlib.Core.Bool.{Bool, true, false, cond, not, ◌&&◌}
-use mir.Val.{bool_byte}
 
 abbrev pub HeadAt : List ℕ → ℕ → ℕ → Type 0
 HeadAt memory at head = IsHead (get_or memory at 0) (get_or memory (at + 1) 0) (get_or memory (at + 2) 0) head

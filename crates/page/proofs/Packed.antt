@@ -13,7 +13,7 @@ use Rattle.text.proofs.Copies.{part_sets}
 use native.Mathlib.Nat.{add_comm, pow-suc, div-div-eq-div-mul}
 use native.Mathlib.Omega.{arith}
 use mir.Val.{bool_byte}
-use borrow.Author.Tests.{le-leb, lt-leb, leb-true, leb-false, lt-ltb, le-ltb}
+use borrow.Author.Tests.{lt-ltb, le-ltb, le-leb, lt-leb, leb-true, leb-false}
 use Rattle.kit.proofs.Cases.{on}
 use Rattle.text.specs.Decimals.{digit, decimal}
 use Rattle.text.specs.Hexadecimals.{hex_digit, hexadecimal}
@@ -382,10 +382,7 @@ hex_flag d =
 
 -- the digits of the lowest byte of a number, and of a byte
 low-digits : (n : ℕ) → hex_pair (n % 256) ≡ hex_digit (n / 16 % 16) ∷ hex_digit (n % 16) ∷ []
-low-digits n =
-    let high : n % 256 / 16 ≡ n / 16 % 16 = omega arith in
-    let low : n % 256 % 16 ≡ n % 16 = omega arith in
-    ap (λ d. hex_digit d ∷ hex_digit (n % 256 % 16) ∷ []) high ∙ ap (λ d. hex_digit (n / 16 % 16) ∷ hex_digit d ∷ []) low
+low-digits n = rw (high n, low n) refl
 
 all_digits : (n : ℕ) → n < 256 → hex_pair n ≡ hex_digit (n / 16 % 16) ∷ hex_digit (n % 16) ∷ []
 all_digits n p = let high : n / 16 ≡ n / 16 % 16 = omega arith in ap (λ d. hex_digit d ∷ hex_digit (n % 16) ∷ []) high

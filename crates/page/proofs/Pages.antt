@@ -1,7 +1,7 @@
 -- Laws of `Paged`: nothing, one run after another, a store of more bytes than are put, and a page that is copied into a buffer.
-use Prim.Native.Nat.{ℕ, ◌+◌, ◌≤◌, min, ◌-◌}
+use Prim.Native.Nat.{ℕ, ◌+◌, ◌-◌, ◌≤◌, min}
 use mathlib.Core.Path.{◌≡◌, refl, sym, ap, ◌∙◌, subst}
-use mathlib.Core.Bool.{true, cond, false}
+use mathlib.Core.Bool.{true, false, cond}
 use lib.Dec.{leb}
 use borrow.Author.Tests.{leb-true, leb-false}
 use Rattle.kit.proofs.Cases.{on}

@@ -1,18 +1,18 @@
 -- As many bytes of words as have room, copied into a buffer at once; and put one by one.
 use Prim.Native.Nat.{ℕ, ◌+◌, ◌-◌, ◌<◌, ◌≤◌, min}
 use mathlib.Core.Path.{◌≡◌, refl, sym, ap, ◌∙◌, subst}
-use mathlib.Core.List.{List, ◌++◌, [], ◌∷◌}
+use mathlib.Core.List.{List, [], ◌∷◌, ◌++◌}
+use native.Mathlib.Numerals.{add-one}
 use native.Mathlib.Omega.{arith}
 use lib.Dec.{leb}
-use lib.ListN.{length, take, drop, take-append-drop, drop_of_length-le, set, get_or}
-use lib.Seq.{sets, sets-eq, take_all, length-take-le, take-suc}
+use lib.ListN.{length, take, drop, get_or, set, take-append-drop, drop_of_length-le}
+use lib.Seq.{sets, sets-eq, take_all, take-suc, length-take-le}
 use borrow.Author.Tests.{leb-true, leb-false}
 use borrow.Rule.Slice.PartMut.{put_mid}
 use Rattle.std.proofs.lemmas.Slice.{put_mid-paste}
-use Rattle.kit.specs.Put.{Poured, Put}
+use Rattle.kit.specs.Put.{Put, Poured}
 use Rattle.kit.proofs.Cases.{on}
-use Rattle.kit.proofs.Put.{poured-none, poured_as, poured-then, poured-length, poured_full, put_none_lem, put_then, put_as, put-length}
-use native.Mathlib.Numerals.{add-one}
+use Rattle.kit.proofs.Put.{put_none_lem, put_then, put_as, put-length, poured-none, poured_as, poured-then, poured-length, poured_full}
 
 -- a part written over is a run of stores
 pub part_sets : (l stored : List ℕ) (at count : ℕ) → at + count ≤ length l → length stored ≡ count → put_mid at count l stored ≡ sets l at stored
