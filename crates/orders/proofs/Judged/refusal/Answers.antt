@@ -1,4 +1,4 @@
--- `order_refusal`: each answer by the tests that led to it, row by row of the ladder.
+-- `Judged::refusal`: each answer by the tests that led to it, row by row of the ladder.
 use Prim.Native.Nat.{ℕ}
 use mathlib.Core.Path.{◌≡◌, sym, ◌∙◌}
 use mathlib.Core.Bool.{Bool, true, cond, not}
@@ -10,7 +10,7 @@ use Rattle.order_list.specs.declared.Order.{Order}
 use Rattle.kinds.specs.Words.{is_type, second_allowed}
 use Rattle.places.specs.declared.Place.{Place}
 use Rattle.orders.specs.Orders.{is_retyped, order_rows}
-use Rattle.orders.proofs.order_refusal.Goals as goal
+use Rattle.orders.proofs.Judged.refusal.Goals as goal
 
 -- past row 5: the rows that are left
 passed : (places : List Place) (list : List ℕ) (j : ℕ) (x : Order) (allowed : Bool)
@@ -43,15 +43,15 @@ returns-then-order-ne0 c places twenty e f =
     )
 
 pub returns-then-not-second_allowed : goal.returns-then-not-second_allowed
-returns-then-not-second_allowed c places twenty e f = sym (passed places c.args.list.now c.args.j c.order_at-order.result c.second_allowed.result c.order_at-order.ensures c.if-order-eq0.false (sym c.is_kind.ensures ∙ c.if-not-is_kind.false) c.if-order-ne0.false c.second_allowed.ensures ∙ simp c.if-not-second_allowed.true)
+returns-then-not-second_allowed c places twenty e f = sym (passed places c.args.self.now.list.now c.args.j c.order_at-order.result c.second_allowed.result c.order_at-order.ensures c.if-order-eq0.false (sym c.is_kind.ensures ∙ c.if-not-is_kind.false) c.if-order-ne0.false c.second_allowed.ensures ∙ simp c.if-not-second_allowed.true)
 
 pub returns-then-is_earlier : goal.returns-then-is_earlier
-returns-then-is_earlier c places twenty e f = sym (passed places c.args.list.now c.args.j c.order_at-order.result c.second_allowed.result c.order_at-order.ensures c.if-order-eq0.false (sym c.is_kind.ensures ∙ c.if-not-is_kind.false) c.if-order-ne0.false c.second_allowed.ensures ∙ simp (c.if-not-second_allowed.false, sym c.is_earlier.ensures ∙ c.if-is_earlier.true))
+returns-then-is_earlier c places twenty e f = sym (passed places c.args.self.now.list.now c.args.j c.order_at-order.result c.second_allowed.result c.order_at-order.ensures c.if-order-eq0.false (sym c.is_kind.ensures ∙ c.if-not-is_kind.false) c.if-order-ne0.false c.second_allowed.ensures ∙ simp (c.if-not-second_allowed.false, sym c.is_earlier.ensures ∙ c.if-is_earlier.true))
 
 pub returns-then-is_retyped : goal.returns-then-is_retyped
 returns-then-is_retyped c places twenty e f =
-    sym (passed places c.args.list.now c.args.j c.order_at-order.result c.second_allowed.result c.order_at-order.ensures c.if-order-eq0.false (sym c.is_kind.ensures ∙ c.if-not-is_kind.false) c.if-order-ne0.false c.second_allowed.ensures ∙ simp (c.if-not-second_allowed.false, sym c.is_earlier.ensures ∙ c.if-is_earlier.false, sym (c.is_retyped.ensures places twenty e f) ∙ c.if-is_retyped.true))
+    sym (passed places c.args.self.now.list.now c.args.j c.order_at-order.result c.second_allowed.result c.order_at-order.ensures c.if-order-eq0.false (sym c.is_kind.ensures ∙ c.if-not-is_kind.false) c.if-order-ne0.false c.second_allowed.ensures ∙ simp (c.if-not-second_allowed.false, sym c.is_earlier.ensures ∙ c.if-is_earlier.false, sym (c.is_retyped.ensures places twenty e f) ∙ c.if-is_retyped.true))
 
 pub returns : goal.returns
 returns c places twenty e f =
-    sym (passed places c.args.list.now c.args.j c.order_at-order.result c.second_allowed.result c.order_at-order.ensures c.if-order-eq0.false (sym c.is_kind.ensures ∙ c.if-not-is_kind.false) c.if-order-ne0.false c.second_allowed.ensures ∙ simp (c.if-not-second_allowed.false, sym c.is_earlier.ensures ∙ c.if-is_earlier.false, sym (c.is_retyped.ensures places twenty e f) ∙ c.if-is_retyped.false))
+    sym (passed places c.args.self.now.list.now c.args.j c.order_at-order.result c.second_allowed.result c.order_at-order.ensures c.if-order-eq0.false (sym c.is_kind.ensures ∙ c.if-not-is_kind.false) c.if-order-ne0.false c.second_allowed.ensures ∙ simp (c.if-not-second_allowed.false, sym c.is_earlier.ensures ∙ c.if-is_earlier.false, sym (c.is_retyped.ensures places twenty e f) ∙ c.if-is_retyped.false))

@@ -1,4 +1,4 @@
--- `is_retyped`: the type of the order's place, where it has one.
+-- `Judged::is_retyped`: the type of the order's place, where it has one.
 use Prim.Native.Nat.{ℕ, ◌<◌, ◌≤◌}
 use mathlib.Core.Path.{◌≡◌, refl, sym, ap, ◌∙◌}
 use mathlib.Core.Bool.{false, not}
@@ -17,7 +17,7 @@ use Rattle.places.specs.Places.{free_place, orders_of, place_of}
 use Rattle.places.specs.declared.Place.{Place}
 use Rattle.places.proofs.Live.{found-live}
 use Rattle.orders.specs.Orders.{types_of, is_retyped}
-use Rattle.orders.proofs.is_retyped.Goals as goal
+use Rattle.orders.proofs.Judged.is_retyped.Goals as goal
 
 -- by the orders and the types of the places
 module _ (live types : List ℕ) (order : Order) (places : List Place)
@@ -45,9 +45,9 @@ module _ (live types : List ℕ) (order : Order) (places : List Place)
 pub returns-in-Some : goal.returns-in-Some
 returns-in-Some c places twenty e f =
     let a = c.args in
-    judged a.live.now a.types.now a.order places twenty e f _ c.in-Some.ensures
+    judged a.self.now.live a.self.now.types a.order places twenty e f _ c.in-Some.ensures
 
 pub returns-in-None : goal.returns-in-None
 returns-in-None c places twenty e f =
     let a = c.args in
-    unplaced a.live.now a.types.now a.order places twenty e f c.in-None.ensures
+    unplaced a.self.now.live a.self.now.types a.order places twenty e f c.in-None.ensures

@@ -1,4 +1,4 @@
--- A part of the memory that is written over at once: what it is then, as a run of stores.
+-- A part of a list that is written over at once: what it is then, as a run of stores.
 use Prim.Native.Nat.{ℕ, ◌+◌, ◌≤◌}
 use mathlib.Core.Path.{◌≡◌, refl, sym, ap, ◌∙◌}
 use mathlib.Core.List.{List, ◌++◌, append_assoc}

@@ -1,11 +1,11 @@
--- `is_earlier`: by where the number was found among those of the list.
-use Rattle.std.proofs.Common.{◌≡◌, ◌<◌, ◌≤◌, ℕ, List, false, Some, None, sym, ap, ◌∙◌, arith, ltb}
+-- `Judged::is_earlier`: by where the number was found among those of the list.
+use Rattle.std.proofs.Common.{◌≡◌, ◌<◌, ◌≤◌, ℕ, List, false, Some, None, sym, ap, ◌∙◌, arith, rules, ltb}
 use borrow.Author.Tests.{ltb-true, ltb-false}
 use Rattle.kit.proofs.Cases.{on}
 use Rattle.order_list.specs.Lists.{index_below, is_listed, numbers_of, found_at}
 use Rattle.order_list.proofs.Found.{listed_early, listed-late}
 use Rattle.order_list.proofs.Searched.{some-below, none-below}
-use Rattle.orders.proofs.is_earlier.Goals as goal
+use Rattle.orders.proofs.Judged.is_earlier.Goals as goal
 
 module _ (list numbers : List ℕ) (j number : ℕ) (few : j < 20) (all : numbers ≡ numbers_of list) where
   same : found_at numbers number ≡ found_at (numbers_of list) number
@@ -26,9 +26,9 @@ module _ (list numbers : List ℕ) (j number : ℕ) (few : j < 20) (all : number
 pub returns-in-Some : goal.returns-in-Some
 returns-in-Some c =
     let a = c.args in
-    there a.list.now a.numbers.now a.j a.number c.requires.0 c.requires.1 _ c.in-Some.ensures
+    there a.self.now.list.now a.self.now.numbers a.j a.number c.requires (search rules) _ c.in-Some.ensures
 
 pub returns-in-None : goal.returns-in-None
 returns-in-None c =
     let a = c.args in
-    nowhere a.list.now a.numbers.now a.j a.number c.requires.0 c.requires.1 c.in-None.ensures
+    nowhere a.self.now.list.now a.self.now.numbers a.j a.number c.requires (search rules) c.in-None.ensures
