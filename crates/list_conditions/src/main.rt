@@ -18,7 +18,7 @@ ghost use Rattle.listing_room.specs.Rooms.{piece_room, lines_room, header_room, 
 use lister::{Listed, Lister};
 use outcomes::{Progress, State};
 use program::{Asked, Program};
-use streams::{Output, Source, System};
+use streams::{Output, Source, Stopped, System};
 use summary::Tally;
 
 fn main(rt: HostRuntime) {
@@ -26,7 +26,8 @@ fn main(rt: HostRuntime) {
         rt: &rt,
         program: Program::ListConditions,
     };
-    system.run(|asked, source, progress| list(begun_tally(asked), source, progress));
+    // what stopped it was told
+    system.run(|asked, source, progress| list(begun_tally(asked), source, progress).unwrap_or(()));
 }
 
 // What is counted from, where a summary is asked for.
@@ -38,13 +39,11 @@ fn begun_tally(asked: Asked) -> Option<Tally>
 }
 
 // Lists the input to its end, or to the first read or write that fails. What it had is counted only where a summary is asked for.
-fn list(counted: Option<Tally>, source: &Source, begun: Progress)
+fn list(counted: Option<Tally>, source: &Source, begun: Progress) -> Result<(), Stopped>
     requires { IfSome counted Countable }
 {
     let system = source.system;
-    if !show_header(system) {
-        return;
-    }
+    show_header(system)?;
     let mut lister = Lister::begun();
     let mut tally = counted;
     let mut progress = begun;
@@ -57,24 +56,23 @@ fn list(counted: Option<Tally>, source: &Source, begun: Progress)
         match outcome {
             Ok(n) => {
                 tally = count_piece(tally, lister, &piece[..n]);
-                if !show_piece(system, &mut lister, &piece[..n], &mut out) {
-                    return;
-                }
+                show_piece(system, &mut lister, &piece[..n], &mut out)?;
             }
             Err(state) => {
                 system.end_progress(progress);
-                if show_end(system, state, lister)
-                    && let Some(tally) = tally
-                {
-                    show_summary(system, state, tally, lister);
-                }
-                return;
+                show_end(system, state, lister)?;
+                return match tally {
+                    Some(tally) => show_summary(system, state, tally, lister),
+                    None => Ok(()),
+                };
             }
         }
     }
+    Ok(())
 }
 
-// Counts what a piece brings, where that is asked for.
+// Counts what a piece brings, where that is asked for. That the lister was made is asked for here and below, and kept by no ghost field
+// of a type round it: of such a fact there is one proof at most, and a lister may come of pieces in many ways.
 fn count_piece(tally: Option<Tally>, lister: Lister, piece: &[u8]) -> Option<Tally>
     requires { MadeByPieces lister }
     ensures { result ≡ option_map (λ tally. counted_piece tally lister piece.now) tally }
@@ -82,8 +80,9 @@ fn count_piece(tally: Option<Tally>, lister: Lister, piece: &[u8]) -> Option<Tal
     tally.map(|tally| tally.take(lister, piece))
 }
 
-// Puts the header, all of it: the buffer has the size for which that is proved (listing_room/specs/Rooms.antt). That the sizes are asked for
-// here and below, and stand in no array type, has each number in one place, there.
+// Puts the header, all of it: the buffer has the size for which that is proved (listing_room/specs/Rooms.antt). Here and below a slice of
+// that size is asked for, and no array type has it: each number stands in one place, there, and it is the contract that refuses another
+// size.
 fn put_header(out: &mut [u8]) -> usize
     requires { length out.old ≡ header_room }
     ensures { Put out.old 0 header_line out.new result }
@@ -91,8 +90,8 @@ fn put_header(out: &mut [u8]) -> usize
     listing_lines::put_header(out, 0)
 }
 
-// Writes the header, and answers whether it was written.
-fn show_header(system: System) -> bool {
+// Writes the header.
+fn show_header(system: System) -> Result<(), Stopped> {
     let mut out = [0u8; 16];
     let n = put_header(&mut out);
     system.write(Output::Standard, &out[..n])
@@ -106,8 +105,13 @@ fn put_piece(lister: Lister, piece: &[u8], out: &mut [u8]) -> Listed
     lister.take(piece, out, 0)
 }
 
-// Writes the lines of one piece, and answers whether they were written.
-fn show_piece(system: System, lister: &mut Lister, piece: &[u8], out: &mut [u8]) -> bool
+// Writes the lines of one piece.
+fn show_piece(
+    system: System,
+    lister: &mut Lister,
+    piece: &[u8],
+    out: &mut [u8],
+) -> Result<(), Stopped>
     requires { MadeByPieces lister.old × (length piece.now ≤ piece_room) × (length out.old ≡ lines_room) }
     ensures { lister.new ≡ take_of lister.old piece.now }
 {
@@ -129,8 +133,8 @@ fn put_end(state: State, lister: Lister, out: &mut [u8]) -> usize
     }
 }
 
-// Writes it, and answers whether it was written.
-fn show_end(system: System, state: State, lister: Lister) -> bool
+// Writes it.
+fn show_end(system: System, state: State, lister: Lister) -> Result<(), Stopped>
     requires { MadeByPieces lister }
 {
     let mut out = [0u8; 64];
@@ -153,10 +157,10 @@ fn put_summary(state: State, tally: Tally, lister: Lister, out: &mut [u8]) -> us
 }
 
 // Writes it to error output.
-fn show_summary(system: System, state: State, tally: Tally, lister: Lister)
+fn show_summary(system: System, state: State, tally: Tally, lister: Lister) -> Result<(), Stopped>
     requires { MadeByPieces lister × Countable tally }
 {
     let mut out = [0u8; 1536];
     let n = put_summary(state, tally, lister, &mut out);
-    system.write(Output::Errors, &out[..n]);
+    system.write(Output::Errors, &out[..n])
 }

@@ -122,6 +122,9 @@ fn hear_one(lister: Lister, telegram: &[u8], listing: &mut [u8], at: usize) -> L
     }
 }
 
+// That the lister was made is asked for here and in `bite`. It is no invariant of `Lister`, since `finish` of listing takes any; and no
+// ghost field of a type round it: of such a fact there is one proof at most, and a lister may come of pieces in many ways.
+
 // Takes a piece where no telegram is begun, or an empty one: hears the telegrams that lie whole in it, one after another, and keeps what is
 // left. The listener stands in lent memory from the first to the last.
 fn take_rest(lister: Lister, piece: &[u8], listing: &mut [u8], at: usize) -> Listed

@@ -23,7 +23,7 @@ pub fn put_header(listing: &mut [u8], at: usize) -> usize
     text::put_words(listing, at, &HEADER)
 }
 
-// `refused N`.
+// `refused N`. It takes every number, as an answer of the listener has it: a `Refusal` would ask more of a caller.
 pub fn put_refused(number: u8, listing: &mut [u8], at: usize) -> usize
     ensures { Poured listing.old at (refused_line number) listing.new result }
 {

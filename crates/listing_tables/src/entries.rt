@@ -117,6 +117,7 @@ pub fn put_entry(place: usize, slot: Slot, carried: bool, page: &mut [u8], at: u
         return at;
     }
     let coded = condition::coded_of(slot);
+    // `as`, since the place is below 256: the error of a `TryFrom` could not come
     let second = put_numbers(page, at, place as u8, slot.number, coded.kind);
     let third = put_both(coded.first, slot.body, page, second);
     put_mark(page, third, carried)

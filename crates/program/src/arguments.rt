@@ -48,8 +48,8 @@ fn is_option(text: &[u8]) -> bool
     text.first() == Some(&b'-')
 }
 
-// By calls of `is_same`: `==` takes two slices, so that each word would be followed by `.as_slice()`, and a match on the texts splits into
-// forty cases by their lengths.
+// No match on the texts: tried, and its proof splits into some forty goals, by their lengths. And no `==`: it takes two slices, so that
+// each word would be followed by `.as_slice()`.
 #[tactic(auto, unfolding(crate::specs::Arguments::argument_of, kit::specs::Ladder::ladder))]
 pub fn argument_of(text: &[u8]) -> Argument
     ensures { result ≡ argument_of text.now }

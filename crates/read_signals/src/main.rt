@@ -3,7 +3,6 @@
 #![tactic(auto)]
 
 ghost use Rattle.std.specs.Prelude.{◌≡◌, option_copied};
-ghost use Rattle.kit.specs.Put.{Poured};
 ghost use Rattle.outcomes.specs.Ends.{where_short};
 ghost use Rattle.signals.specs.Signals.{update_by};
 ghost use Rattle.signals_output.specs.Lines.{short_call_line};
@@ -11,18 +10,19 @@ ghost use Rattle.signals_output.specs.Lines.{short_call_line};
 use outcomes::{End, Progress};
 use program::Program;
 use signals::{Signals, Updated};
-use streams::{Output, Source, System};
+use streams::{Output, Source, Stopped, System};
 
 fn main(rt: HostRuntime) {
     let system = System {
         rt: &rt,
         program: Program::ReadSignals,
     };
-    system.run(|_, source, progress| follow(source, progress));
+    // what stopped it was told
+    system.run(|_, source, progress| follow(source, progress).unwrap_or(()));
 }
 
 // Keeps the record to the input's end, or to the first read or write that fails.
-fn follow(source: &Source, begun: Progress) {
+fn follow(source: &Source, begun: Progress) -> Result<(), Stopped> {
     let system = source.system;
     let mut signals = Signals::fresh();
     let mut progress = begun;
@@ -32,21 +32,19 @@ fn follow(source: &Source, begun: Progress) {
             Ok(telegram) => {
                 let length = telegram.map_or(0, |bytes| bytes.len());
                 progress = system.went_on(progress, frames::LENGTH + length);
-                if !take(system, &mut signals, telegram) {
-                    return;
-                }
+                take(system, &mut signals, telegram)?;
             }
             Err(end) => {
                 system.end_progress(progress);
-                show_end(system, end);
-                return;
+                return system.write(Output::Standard, at_end(end));
             }
         }
     }
+    Ok(())
 }
 
-// Hands one call to the record, which is lent for it, and shows the answer. Answers whether that was written.
-fn take(system: System, signals: &mut Signals, telegram: Option<&[u8]>) -> bool
+// Hands one call to the record, which is lent for it, and shows the answer.
+fn take(system: System, signals: &mut Signals, telegram: Option<&[u8]>) -> Result<(), Stopped>
     ensures { signals.new ≡ (update_by signals.old (option_copied telegram.entry)).signals }
 {
     let updated = signals_in_place::lend_and_update_by(*signals, telegram);
@@ -54,26 +52,20 @@ fn take(system: System, signals: &mut Signals, telegram: Option<&[u8]>) -> bool
     show_line(system, updated)
 }
 
-fn show_line(system: System, updated: Updated) -> bool {
+fn show_line(system: System, updated: Updated) -> Result<(), Stopped> {
     let mut line = [0u8; 256];
     let n = signals_output::put_line(updated, &mut line, 0);
     system.write(Output::Standard, &line[..n])
 }
 
-// Puts the line on a call that is not whole, where the input has ended inside one; after a read that failed, nothing. One function for this
-// program and `run_desk` would be no shorter: it would be lent `put_short` of each as a closure, and a contract on what that puts.
-fn put_end(end: End, line: &mut [u8]) -> usize
-    ensures { Poured line.old 0 (where_short end short_call_line) line.new result }
+// What is said at the end: the line on a call that is not whole, where the input has ended inside one; after a read that failed, nothing.
+#[tactic(auto, unfolding(signals_output::specs::Lines::short_call_line))]
+fn at_end(end: End) -> &'static [u8]
+    ensures { result.now ≡ where_short end short_call_line }
 {
     if outcomes::is_short(end) {
-        signals_output::put_short(line, 0)
+        signals_output::SHORT_CALL
     } else {
-        0
+        b""
     }
-}
-
-fn show_end(system: System, end: End) {
-    let mut line = [0u8; 11];
-    let n = put_end(end, &mut line);
-    system.write(Output::Standard, &line[..n]);
 }

@@ -7,6 +7,7 @@ ghost use Rattle.kit.specs.Put.{Poured};
 ghost use Rattle.signals_output.specs.Lines.{line_of};
 ghost use Rattle.signal_runs.specs.Runs.{updated_by, signal_lines};
 
+use frames::{Calls, NO_TELEGRAM, WholeCall};
 use signals::Signals;
 
 // The record after a call, and the place past its line.
@@ -18,11 +19,11 @@ struct Spoken {
 
 // One call: its line, and the next record. The record is lent for the call and updated where it is.
 #[tactic(auto, unfolding(crate::specs::Runs::updated_by, signals::specs::Signals::update_of))]
-fn tell(signals: Signals, announced: u16, bytes: &[u8], lines: &mut [u8], at: usize) -> Spoken
-    ensures { (result.signals ≡ (updated_by signals (announced, bytes.now)).signals)
-        × Poured lines.old at (line_of (updated_by signals (announced, bytes.now))) lines.new result.at }
+fn tell(signals: Signals, call: WholeCall, lines: &mut [u8], at: usize) -> Spoken
+    ensures { (result.signals ≡ (updated_by signals (call.entry.length, call.entry.bytes.now)).signals)
+        × Poured lines.old at (line_of (updated_by signals (call.entry.length, call.entry.bytes.now))) lines.new result.at }
 {
-    let telegram = (announced != frames::NO_TELEGRAM).then_some(bytes);
+    let telegram = (call.length != NO_TELEGRAM).then_some(call.bytes);
     let updated = signals_in_place::lend_and_update_by(signals, telegram);
     Spoken {
         signals: updated.signals,
@@ -32,27 +33,22 @@ fn tell(signals: Signals, announced: u16, bytes: &[u8], lines: &mut [u8], at: us
 
 // The lines of all calls, from a fresh record on, and `short call` where the input ends inside one; the answer is the place past them.
 // What has no room before the buffer's end is dropped.
-#[tactic(auto, using(frames::proofs::Splitting::call_bounds))]
 pub fn read(input: &[u8], lines: &mut [u8]) -> usize
     ensures { Poured lines.old 0 (signal_lines input.now) lines.new result }
 {
     let mut signals = Signals::fresh();
-    let mut rest = input;
     let mut at: usize = 0;
-    while !rest.is_empty() {
-        let Some(size) = frames::call_size(rest, Some(frames::NO_TELEGRAM)) else {
+    let calls = Calls {
+        rest: input,
+        bare: Some(NO_TELEGRAM),
+    };
+    for call in calls {
+        let Ok(call) = call else {
             return signals_output::put_short(lines, at);
         };
-        let told = tell(
-            signals,
-            wire::word_at(rest, 0),
-            &rest[frames::LENGTH..size],
-            lines,
-            at,
-        );
+        let told = tell(signals, call, lines, at);
         signals = told.signals;
         at = told.at;
-        rest = &rest[size..];
     }
     at
 }

@@ -74,10 +74,12 @@ pub fn put_line(updated: Updated, line: &mut [u8], at: usize) -> usize
     text::put_words(line, at, &page[..end])
 }
 
-// `short call` and a line feed.
+// What is said where the input ends inside a call.
+pub const SHORT_CALL: &[u8] = b"short call\n";
+
 #[tactic(auto, unfolding(crate::specs::Lines::short_call_line))]
 pub fn put_short(line: &mut [u8], at: usize) -> usize
     ensures { Poured line.old at short_call_line line.new result }
 {
-    text::put_words(line, at, b"short call\n")
+    text::put_words(line, at, SHORT_CALL)
 }

@@ -53,7 +53,8 @@ impl System<'_> {
         } else {
             Output::Standard
         };
-        self.write(output, &out[..k]);
+        // it is the last thing that is done
+        let _ = self.write(output, &out[..k]);
     }
 }
 

@@ -74,7 +74,8 @@ impl Source<'_> {
         if self.is_terminal() {
             let mut line = [0u8; 128];
             let n = program::put_awaiting(self.system.program, &mut line, 0);
-            self.system.write(Output::Errors, &line[..n]);
+            // a line that cannot be written is no loss: the input is read all the same
+            let _ = self.system.write(Output::Errors, &line[..n]);
         }
     }
 

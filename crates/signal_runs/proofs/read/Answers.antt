@@ -1,35 +1,49 @@
--- `read`: what is poured and the lines of what is left of the input make the whole, turn by turn; each turn leaves less.
-use Rattle.std.proofs.Common.{ℕ, ◌-◌, List, take, drop, sym, ap, ap₂, rules, refl}
-use borrow.Author.Rules.{part_to_end}
-use Rattle.frames.specs.Frames.{whole_size}
-use Rattle.frames.proofs.Splitting.{size_some, size_none}
+-- `read`: what is poured and the lines of what is left of the input make the whole, turn by turn; one length is bare.
+use Rattle.std.proofs.Common.{sym, ap, ap₂, ◌∙◌}
+use Rattle.frames.specs.Calls.{next_size, CallGiven, ShortGiven}
+use Rattle.frames.specs.declared.calls.Calls.{Calls}
+use Rattle.frames.proofs.Given.{size_where}
 use Rattle.frames.proofs.Pouring.{pouring_start, pouring_more, pouring_end, pouring_last, pouring_as}
-use Rattle.signal_runs.specs.Runs.{no_telegram, signal_lines_with, signal_lines}
+use Rattle.signal_runs.specs.Runs.{signal_lines_with, signal_lines}
 use Rattle.signal_runs.proofs.Lines.{lines_more, lines-short, lines_end}
 use Rattle.signal_runs.proofs.read.Goals as goal
 
-pub loop-rest-init : goal.loop-rest-init
+pub loop-call-init : goal.loop-call-init
 unfolding signal_lines
-loop-rest-init c = pouring_as (ap (λ s. signal_lines_with s c.args.input.now) (sym c.fresh-signals.ensures)) pouring_start
+loop-call-init c =
+    let begun = c.into_iter-call-iterator.ensures.into_iter_gives in
+    record {
+      bare = ap (λ (i : Calls). i.bare) begun;
+      goes = pouring_as (ap₂ signal_lines_with (sym c.fresh-signals.ensures) (sym (ap (λ (i : Calls). i.rest.now) begun))) pouring_start;
+    }
 
 pub returns-in_default : goal.returns-in_default
 returns-in_default c =
-    let l = c.loop-rest in
-    let rest : List ℕ = l.rest.now in
-    pouring_end (pouring_as (lines-short l.signals rest (whole_size no_telegram rest) refl (size_none _ c.in_default.ensures) (search rules)) l.invariant) c.put_short.ensures
+    let l = c.loop-call in
+    let given : ShortGiven l.call-iterator c.next.new.self = rw c.in_default.is at c.in-Some.ensures.steps in
+    pouring_end
+    (pouring_as (lines-short l.signals l.call-iterator.rest.now (next_size l.call-iterator) (size_where l.call-iterator l.invariant.bare) given.part given.some) l.invariant.goes)
+    c.put_short.ensures
 
-pub loop-rest-preserved : goal.loop-rest-preserved
-loop-rest-preserved c =
-    let l = c.loop-rest in
-    let size : ℕ = c.in-Some.size in
+pub loop-call-preserved : goal.loop-call-preserved
+loop-call-preserved c =
+    let l = c.loop-call in
+    let given : CallGiven l.call-iterator c.in-Ok.call c.next.new.self = rw c.in-Ok.is at c.in-Some.ensures.steps in
     let told = c.tell-told.ensures in
-    let rest : List ℕ = l.rest.now in
-    let bytes : List ℕ = take (size - 2) (drop 2 rest) in
-    let known = size_some (whole_size no_telegram rest) c.in-Some.ensures in
-    pouring_as (ap₂ signal_lines_with (sym told.0) (sym (part_to_end rest size)))
-    (pouring_more (pouring_as (lines_more l.signals rest size known.0 (c.word_at.result, bytes) known.1 (ap (λ w. (w, bytes)) (sym c.word_at.ensures))) l.invariant) told.1)
+    let call = c.in-Ok.call in
+    record {
+      bare = given.bare ∙ l.invariant.bare;
+      goes =
+          pouring_as (ap₂ signal_lines_with (sym told.0) (sym given.left))
+          (pouring_more
+          (pouring_as
+          (lines_more l.signals l.call-iterator.rest.now (next_size l.call-iterator) (size_where l.call-iterator l.invariant.bare) (call.length, call.bytes.now) given.whole
+          (ap₂ (λ w b. (w, b)) (sym given.announced) (sym given.own)))
+          l.invariant.goes)
+          told.1);
+    }
 
 pub returns : goal.returns
 returns c =
-    let l = c.loop-rest in
-    pouring_last (pouring_as (lines_end l.signals l.rest.now (search rules)) l.invariant)
+    let l = c.loop-call in
+    pouring_last (pouring_as (lines_end l.signals l.call-iterator.rest.now c.in-None.ensures.steps.0) l.invariant.goes)
