@@ -4,30 +4,23 @@
 
 ghost use Rattle.std.specs.Prelude.{◌≡◌};
 ghost use Rattle.kit.specs.Put.{Poured};
+ghost use Rattle.text.specs.Putting.{put_on};
 ghost use Rattle.signals_output.specs.Lines.{line_of};
 ghost use Rattle.signal_runs.specs.Runs.{updated_by, signal_lines};
 
 use signals::Signals;
-
-// The record after a call, and the place past its line.
-#[derive(Clone, Copy)]
-struct Spoken {
-    signals: Signals,
-    at: usize,
-}
+use text::Sheet;
 
 // One call: its line, and the next record. The record is lent for the call and updated where it is.
 #[tactic(auto, unfolding(crate::specs::Runs::updated_by, signals::specs::Signals::update_of))]
-fn tell(signals: Signals, announced: u16, bytes: &[u8], lines: &mut [u8], at: usize) -> Spoken
-    ensures { (result.signals ≡ (updated_by signals (announced, bytes.now)).signals)
-        × Poured lines.old at (line_of (updated_by signals (announced, bytes.now))) lines.new result.at }
+fn tell(signals: Signals, announced: u16, bytes: &[u8], sheet: &mut Sheet<'_>) -> Signals
+    ensures { (result ≡ (updated_by signals (announced, bytes.now)).signals)
+        × (sheet.new ≡ put_on (line_of (updated_by signals (announced, bytes.now))) sheet.old) }
 {
     let telegram = (announced != frames::NO_TELEGRAM).then_some(bytes);
     let updated = signals_in_place::lend_and_update(signals, telegram);
-    Spoken {
-        signals: updated.signals,
-        at: signals_output::put_line(updated, lines, at),
-    }
+    signals_output::put_line(updated, sheet);
+    updated.signals
 }
 
 // The lines of all calls, from a fresh record on, and `short call` where the input ends inside one; the answer is the place past them.
@@ -36,23 +29,21 @@ fn tell(signals: Signals, announced: u16, bytes: &[u8], lines: &mut [u8], at: us
 pub fn read(input: &[u8], lines: &mut [u8]) -> usize
     ensures { Poured lines.old 0 (signal_lines input.now) lines.new result }
 {
+    let mut sheet = Sheet::on(lines, 0);
     let mut signals = Signals::fresh();
     let mut rest = input;
-    let mut at: usize = 0;
     while !rest.is_empty() {
         let Some(size) = frames::call_size(rest, Some(frames::NO_TELEGRAM)) else {
-            return signals_output::put_short(lines, at);
+            signals_output::put_short(&mut sheet);
+            return sheet.at;
         };
-        let told = tell(
+        signals = tell(
             signals,
             wire::word_at(rest, 0),
             &rest[frames::LENGTH..size],
-            lines,
-            at,
+            &mut sheet,
         );
-        signals = told.signals;
-        at = told.at;
         rest = &rest[size..];
     }
-    at
+    sheet.at
 }
