@@ -1,6 +1,6 @@
 // The line of a condition and the line of a table on a page. A word is put with the blank after it.
-ghost use Rattle.std.specs.Prelude.{◌≡◌, cond, [], ◌∷◌, ◌++◌, ltb, length, ◌+◌, ◌-◌, ◌<◌, ◌≤◌};
-ghost use Rattle.page.specs.Pages.{Paged};
+ghost use Rattle.std.specs.Prelude.{◌≡◌, cond, [], ◌∷◌, ◌++◌, ltb, ◌-◌, ◌<◌};
+ghost use Rattle.page.specs.Pages.{room_for, PagedOn};
 ghost use Rattle.wire.specs.Distances.{no_value};
 ghost use Rattle.text.specs.Words.{blank};
 ghost use Rattle.listing_words.specs.Words.{line_feed, minus, number_then, distance_text, mark_word};
@@ -11,7 +11,7 @@ ghost use Rattle.listing_lines.specs.Lines.{table_line};
 use condition::{Body, Slot};
 use listing_lines::TABLE;
 use listing_words::{CARRIED, NEW};
-use text::{BLANK, LINE_FEED};
+use text::{BLANK, LINE_FEED, Sheet};
 use wire::NO_VALUE;
 
 const STROKE: u8 = b'/';
@@ -26,110 +26,110 @@ fn metres(word: u16) -> u16
 }
 
 // "- ", for what has no value.
-fn put_none(page: &mut [u8], at: usize) -> usize
-    requires { at + 8 ≤ length page.old }
-    ensures { Paged 2 page.old at (minus ∷ blank ∷ []) page.new result }
+fn put_none(page: &mut Sheet<'_>)
+    requires { room_for 8 page.old }
+    ensures { PagedOn 2 (minus ∷ blank ∷ []) page.old page.new }
 {
-    page::put_short_text(page, at, b"- ")
+    page::put_short_text(b"- ", page);
 }
 
 // A distance in metres, or `-` where it has no value.
 #[tactic(auto, using(crate::proofs::Words::distance_none))]
-fn put_distance(page: &mut [u8], at: usize, word: u16) -> usize
-    requires { at + 9 ≤ length page.old }
-    ensures { Paged 7 page.old at (distance_text word ++ (blank ∷ [])) page.new result }
+fn put_distance(word: u16, page: &mut Sheet<'_>)
+    requires { room_for 9 page.old }
+    ensures { PagedOn 7 (distance_text word ++ (blank ∷ [])) page.old page.new }
 {
     if word == NO_VALUE {
-        put_none(page, at)
+        put_none(page);
     } else {
-        let next = page::put_byte_if(page, at, MINUS, word >= NO_VALUE);
-        page::put_number(page, next, metres(word), BLANK)
+        page::put_byte_if(MINUS, word >= NO_VALUE, page);
+        page::put_number(metres(word), BLANK, page);
     }
 }
 
 // `voltage/country`.
-fn put_system(page: &mut [u8], at: usize, country: u16, voltage: u8) -> usize
-    requires { at + 12 ≤ length page.old }
-    ensures { Paged 10 page.old at (number_then voltage stroke ++ number_then country blank) page.new result }
+fn put_system(country: u16, voltage: u8, page: &mut Sheet<'_>)
+    requires { room_for 12 page.old }
+    ensures { PagedOn 10 (number_then voltage stroke ++ number_then country blank) page.old page.new }
 {
-    let next = page::put_number(page, at, voltage as u16, STROKE);
-    page::put_number(page, next, country, BLANK)
+    page::put_number(voltage as u16, STROKE, page);
+    page::put_number(country, BLANK, page);
 }
 
 // What the second word of a condition says; `-` where the change distance has no value.
-fn put_second(body: Body, page: &mut [u8], at: usize) -> usize
-    requires { at + 12 ≤ length page.old }
-    ensures { Paged 10 page.old at (second_word body ++ (blank ∷ [])) page.new result }
+fn put_second(body: Body, page: &mut Sheet<'_>)
+    requires { room_for 12 page.old }
+    ensures { PagedOn 10 (second_word body ++ (blank ∷ [])) page.old page.new }
 {
     match body {
-        Body::Empty => page::put_byte(page, at, BLANK),
-        Body::Area { exit, .. } => put_distance(page, at, exit),
+        Body::Empty => page::put_byte(BLANK, page),
+        Body::Area { exit, .. } => put_distance(exit, page),
         Body::Traction { change, .. } | Body::Current { change, .. } if change == NO_VALUE =>
-            put_none(page, at),
+            put_none(page),
         Body::Traction {
             country,
             voltage,
             ..
-        } => put_system(page, at, country, voltage),
-        Body::Current { limit, .. } => page::put_number(page, at, limit, BLANK),
+        } => put_system(country, voltage, page),
+        Body::Current { limit, .. } => page::put_number(limit, BLANK, page),
     }
 }
 
 // `carried` or `new`, and the end of the line.
-fn put_mark(page: &mut [u8], at: usize, carried: bool) -> usize
-    requires { at + 8 ≤ length page.old }
-    ensures { Paged 8 page.old at (mark_word carried ++ (line_feed ∷ [])) page.new result }
+fn put_mark(carried: bool, page: &mut Sheet<'_>)
+    requires { room_for 8 page.old }
+    ensures { PagedOn 8 (mark_word carried ++ (line_feed ∷ [])) page.old page.new }
 {
     // each word stands in a call of its own, so that its bytes are packed when this is compiled
-    let next = if carried {
-        page::put_short_text(page, at, &CARRIED)
+    if carried {
+        page::put_short_text(&CARRIED, page);
     } else {
-        page::put_short_text(page, at, &NEW)
-    };
-    page::put_byte(page, next, LINE_FEED)
+        page::put_short_text(&NEW, page);
+    }
+    page::put_byte(LINE_FEED, page);
 }
 
 // Slot, number and type.
-fn put_numbers(page: &mut [u8], at: usize, place: u8, number: u8, kind: u8) -> usize
-    requires { at + 16 ≤ length page.old }
-    ensures { Paged 12 page.old at (number_then place blank ++ (number_then number blank ++ number_then kind blank)) page.new result }
+fn put_numbers(place: u8, number: u8, kind: u8, page: &mut Sheet<'_>)
+    requires { room_for 16 page.old }
+    ensures { PagedOn 12 (number_then place blank ++ (number_then number blank ++ number_then kind blank)) page.old page.new }
 {
-    let second = page::put_short_number(page, at, place, BLANK);
-    let third = page::put_number(page, second, number as u16, BLANK);
-    page::put_short_number(page, third, kind, BLANK)
+    page::put_short_number(place, BLANK, page);
+    page::put_number(number as u16, BLANK, page);
+    page::put_short_number(kind, BLANK, page);
 }
 
 // What the first and the second word say.
-fn put_both(first: u16, body: Body, page: &mut [u8], at: usize) -> usize
-    requires { at + 19 ≤ length page.old }
-    ensures { Paged 17 page.old at (distance_text first ++ ((blank ∷ []) ++ (second_word body ++ (blank ∷ [])))) page.new result }
+fn put_both(first: u16, body: Body, page: &mut Sheet<'_>)
+    requires { room_for 19 page.old }
+    ensures { PagedOn 17 (distance_text first ++ ((blank ∷ []) ++ (second_word body ++ (blank ∷ [])))) page.old page.new }
 {
-    let next = put_distance(page, at, first);
-    put_second(body, page, next)
+    put_distance(first, page);
+    put_second(body, page);
 }
 
 // The line of a slot, where it is occupied.
-pub fn put_entry(place: usize, slot: Slot, carried: bool, page: &mut [u8], at: usize) -> usize
-    requires { (place < 256) × (at + 37 ≤ length page.old) }
-    ensures { Paged 37 page.old at (entry_line place slot carried) page.new result }
+pub fn put_entry(place: usize, slot: Slot, carried: bool, page: &mut Sheet<'_>)
+    requires { (place < 256) × room_for 37 page.old }
+    ensures { PagedOn 37 (entry_line place slot carried) page.old page.new }
 {
     if !slot.is_occupied() {
-        return at;
+        return;
     }
     let coded = condition::coded_of(slot);
     // `as`, since the place is below 256: the error of a `TryFrom` could not come
-    let second = put_numbers(page, at, place as u8, slot.number, coded.kind);
-    let third = put_both(coded.first, slot.body, page, second);
-    put_mark(page, third, carried)
+    put_numbers(place as u8, slot.number, coded.kind, page);
+    put_both(coded.first, slot.body, page);
+    put_mark(carried, page);
 }
 
 // `table S K G`: the step number, how many conditions the table has, and the gap.
-pub fn put_table_line(step: u16, count: u8, gap: u16, page: &mut [u8], at: usize) -> usize
-    requires { at + 24 ≤ length page.old }
-    ensures { Paged 22 page.old at (table_line step count gap) page.new result }
+pub fn put_table_line(step: u16, count: u8, gap: u16, page: &mut Sheet<'_>)
+    requires { room_for 24 page.old }
+    ensures { PagedOn 22 (table_line step count gap) page.old page.new }
 {
-    let first = page::put_short_text(page, at, &TABLE);
-    let second = page::put_number(page, first, step, BLANK);
-    let third = page::put_number(page, second, count as u16, BLANK);
-    page::put_number(page, third, gap, LINE_FEED)
+    page::put_short_text(&TABLE, page);
+    page::put_number(step, BLANK, page);
+    page::put_number(count as u16, BLANK, page);
+    page::put_number(gap, LINE_FEED, page);
 }

@@ -4,9 +4,9 @@
 
 mod entries;
 
-ghost use Rattle.std.specs.Prelude.{◌≡◌, ◌++◌, length, ◌+◌, ◌≤◌};
+ghost use Rattle.std.specs.Prelude.{◌≡◌, ◌++◌};
 ghost use Rattle.kit.specs.Put.{Poured};
-ghost use Rattle.page.specs.Pages.{Paged};
+ghost use Rattle.page.specs.Pages.{room_for, PagedOn};
 ghost use Rattle.memory.specs.Memory.{picture_in, marks_in};
 ghost use Rattle.listener.specs.Answers.{told_of};
 ghost use Rattle.listing_lines.specs.Lines.{table_line};
@@ -14,19 +14,18 @@ ghost use Rattle.listing_tables.specs.Tables.{picture_lines, refusal_lines, answ
 
 use condition::SLOTS;
 use listener::Answer;
+use text::Sheet;
 
 // A line for each occupied slot of the picture, on a page.
-fn put_picture(memory: &[u8; 310], page: &mut [u8], at: usize) -> usize
-    requires { at + 740 ≤ length page.old }
-    ensures { Paged 740 page.old at (picture_lines (picture_in memory.now) (marks_in memory.now)) page.new result }
+fn put_picture(memory: &[u8; 310], page: &mut Sheet<'_>)
+    requires { room_for 740 page.old }
+    ensures { PagedOn 740 (picture_lines (picture_in memory.now) (marks_in memory.now)) page.old page.new }
 {
-    let mut next = at;
     for i in 0..SLOTS {
         let slot = memory::shown_slot(memory, i);
         let carried = memory::is_marked(memory, i);
-        next = entries::put_entry(i, slot, carried, page, next);
+        entries::put_entry(i, slot, carried, page);
     }
-    next
 }
 
 // The line of a table and those of its slots, made on a page and copied from it.
@@ -40,10 +39,12 @@ fn put_table(
 ) -> usize
     ensures { Poured listing.old at (table_line step count gap ++ picture_lines (picture_in memory.now) (marks_in memory.now)) listing.new result }
 {
-    let mut page = [0u8; 768];
-    let first = entries::put_table_line(step, count, gap, &mut page, 0);
-    let end = put_picture(memory, &mut page, first);
-    text::put_words(listing, at, &page[..end])
+    let mut bytes = [0u8; 768];
+    let mut page = Sheet::on(&mut bytes, 0);
+    entries::put_table_line(step, count, gap, &mut page);
+    put_picture(memory, &mut page);
+    let end = page.at;
+    text::put_words(listing, at, &bytes[..end])
 }
 
 // A line for a refusal, and none for any other answer.

@@ -1,63 +1,62 @@
-// Text on a page, a lent slice. Each function puts its bytes at `at` and answers the place past them; what stands past that place is of
-// no meaning to a caller, so that eight bytes are stored whatever their count. Where what is stored has no room nothing is put, and the
-// answer is `at`, so that no function asks anything of its caller. `Laid` says all of it, and what each byte is that is stored.
+// Text on a page, a sheet of which only what stands before its place has a meaning, so that eight bytes are stored whatever their count.
+// Each function puts its bytes at the sheet's place and moves the place past them. Where what is stored has no room nothing is put and the
+// place stays, so that no function asks anything of its caller. `LaidOn` says all of it, and what each byte is that is stored.
 #![tactic(auto)]
 
 ghost use Rattle.std.specs.Prelude.{◌≡◌, cond, [], ◌∷◌, ◌++◌, leb, length, take, drop, ◌+◌, ◌*◌, ◌/◌, ◌%◌, ◌<◌, ◌≤◌, min};
-ghost use Rattle.std.proofs.lemmas.List.Edits.{sets};
 ghost use Rattle.kit.specs.Text.{ascii};
 ghost use Rattle.text.specs.Decimals.{decimal};
 ghost use Rattle.text.specs.Hexadecimals.{hex_digit, hexadecimal};
+ghost use Rattle.text.specs.Putting.{put_on};
 ghost use Rattle.page.specs.Words.{bytes_of_word, packed_word};
-ghost use Rattle.page.specs.Pages.{Laid};
+ghost use Rattle.page.specs.Pages.{room_for, LaidOn};
 ghost use Rattle.page.specs.Packed.{Small, low_bytes, number_made, digits_before};
 
-// Whether so many bytes have room from `at` on.
-fn has_room(size: usize, at: usize, width: usize) -> bool
-    ensures { result ≡ leb (at + width) size }
+use text::Sheet;
+
+// Whether so many bytes have room.
+fn has_room(width: usize, page: &Sheet<'_>) -> bool
+    ensures { result ≡ leb (page.now.at + width) (length page.now.buffer.now) }
 {
-    width <= size && at <= size - width
+    let size = page.buffer.len();
+    width <= size && page.at <= size - width
 }
 
 // Eight bytes, the lowest first.
-#[tactic(auto, using(crate::proofs::Packed::eight_stored))]
-fn put_eight(page: &mut [u8], at: usize, piece: u64)
-    requires { at + 8 ≤ length page.old }
-    ensures { page.new ≡ sets page.old at (low_bytes 8 piece) }
+fn put_eight(piece: u64, page: &mut Sheet<'_>)
+    requires { room_for 8 page.old }
+    ensures { page.new ≡ put_on (low_bytes 8 piece) page.old }
 {
-    page[at..at + 8].copy_from_slice(&piece.to_le_bytes());
+    page.buffer[page.at..page.at + 8].copy_from_slice(&piece.to_le_bytes());
+    page.at += 8;
 }
 
 // The lowest `count` bytes of a piece.
-#[tactic(auto, using(crate::proofs::Pages::lows))]
-fn put_piece(page: &mut [u8], at: usize, piece: u64, count: usize) -> usize
+fn put_piece(piece: u64, count: usize, page: &mut Sheet<'_>)
     requires { count ≤ 8 }
-    ensures { Laid 8 count page.old at (low_bytes count piece) (low_bytes 8 piece) page.new result }
+    ensures { LaidOn 8 count (low_bytes count piece) (low_bytes 8 piece) page.old page.new }
 {
-    if has_room(page.len(), at, 8) {
-        put_eight(page, at, piece);
-        at + count
-    } else {
-        at
+    if has_room(8, page) {
+        let end = page.at + count;
+        put_eight(piece, page);
+        page.at = end;
     }
 }
 
 // A byte where it is wanted. It is stored in any case, so that no branch is taken.
-pub fn put_byte_if(page: &mut [u8], at: usize, byte: u8, wanted: bool) -> usize
-    ensures { Laid 1 1 page.old at (cond wanted (byte ∷ []) []) (byte ∷ []) page.new result }
+pub fn put_byte_if(byte: u8, wanted: bool, page: &mut Sheet<'_>)
+    ensures { LaidOn 1 1 (cond wanted (byte ∷ []) []) (byte ∷ []) page.old page.new }
 {
-    if at < page.len() {
-        page[at] = byte;
-        at + wanted as usize
-    } else {
-        at
+    if page.at < page.buffer.len() {
+        page.buffer[page.at] = byte;
+        page.at += wanted as usize;
     }
 }
 
-pub fn put_byte(page: &mut [u8], at: usize, byte: u8) -> usize
-    ensures { Laid 1 1 page.old at (byte ∷ []) (byte ∷ []) page.new result }
+pub fn put_byte(byte: u8, page: &mut Sheet<'_>)
+    ensures { LaidOn 1 1 (byte ∷ []) (byte ∷ []) page.old page.new }
 {
-    put_byte_if(page, at, byte, true)
+    put_byte_if(byte, true, page);
 }
 
 // How many digits come before the last one.
@@ -82,8 +81,8 @@ fn last_four(n: u64) -> u64
 }
 
 // A number in decimal, and a byte after it where it is wanted.
-fn put_digits(page: &mut [u8], at: usize, number: u16, after: u8, wanted: bool) -> usize
-    ensures { Laid 8 (cond wanted 6 5) page.old at (decimal number ++ cond wanted (after ∷ []) []) (low_bytes 8 (number_made (decimal number ++ (after ∷ ascii "00")))) page.new result }
+fn put_digits(number: u16, after: u8, wanted: bool, page: &mut Sheet<'_>)
+    ensures { LaidOn 8 (cond wanted 6 5) (decimal number ++ cond wanted (after ∷ []) []) (low_bytes 8 (number_made (decimal number ++ (after ∷ ascii "00")))) page.old page.new }
 {
     let n = number as u64;
     let eight = (48 + n / 10000)
@@ -92,41 +91,39 @@ fn put_digits(page: &mut [u8], at: usize, number: u16, after: u8, wanted: bool) 
         + 0x3030000000000000;
     let digits = more(n);
     put_piece(
-        page,
-        at,
         eight >> (8 * (4 - digits)),
         (digits + 1) as usize + wanted as usize,
-    )
+        page,
+    );
 }
 
 // A number in decimal, and a byte after it.
-pub fn put_number(page: &mut [u8], at: usize, number: u16, after: u8) -> usize
-    ensures { Laid 8 6 page.old at (decimal number ++ (after ∷ [])) (low_bytes 8 (number_made (decimal number ++ (after ∷ ascii "00")))) page.new result }
+pub fn put_number(number: u16, after: u8, page: &mut Sheet<'_>)
+    ensures { LaidOn 8 6 (decimal number ++ (after ∷ [])) (low_bytes 8 (number_made (decimal number ++ (after ∷ ascii "00")))) page.old page.new }
 {
-    put_digits(page, at, number, after, true)
+    put_digits(number, after, true, page);
 }
 
 // The same of a number that has most often one digit: that case is quicker here, and every other one slower.
-pub fn put_short_number(page: &mut [u8], at: usize, number: u8, after: u8) -> usize
-    ensures { Laid 8 4 page.old at (decimal number ++ (after ∷ [])) (low_bytes 8 (number_made (decimal number ++ (after ∷ ascii "00")))) page.new result }
+pub fn put_short_number(number: u8, after: u8, page: &mut Sheet<'_>)
+    ensures { LaidOn 8 4 (decimal number ++ (after ∷ [])) (low_bytes 8 (number_made (decimal number ++ (after ∷ ascii "00")))) page.old page.new }
 {
     if number < 10 {
         put_piece(
-            page,
-            at,
             (48 + number as u64) + after as u64 * 0x100 + 0x30300000,
             2,
-        )
+            page,
+        );
     } else {
-        put_digits(page, at, number as u16, after, true)
+        put_digits(number as u16, after, true, page);
     }
 }
 
 // A number in decimal, and nothing after it.
-pub fn put_bare_number(page: &mut [u8], at: usize, number: u16) -> usize
-    ensures { Laid 8 5 page.old at (decimal number) (low_bytes 8 (number_made (decimal number ++ ascii "000"))) page.new result }
+pub fn put_bare_number(number: u16, page: &mut Sheet<'_>)
+    ensures { LaidOn 8 5 (decimal number) (low_bytes 8 (number_made (decimal number ++ ascii "000"))) page.old page.new }
 {
-    put_digits(page, at, number, b'0', false)
+    put_digits(number, b'0', false, page);
 }
 
 // Eight bytes of a text from `from` on, or as many as it has, as a number, the first one lowest.
@@ -142,10 +139,10 @@ fn piece_of(words: &[u8], from: usize) -> u64
 }
 
 // The first eight bytes of a text.
-pub fn put_short_text(page: &mut [u8], at: usize, words: &[u8]) -> usize
-    ensures { Laid 8 8 page.old at (take 8 words.now) (low_bytes 8 (number_made (take 8 words.now))) page.new result }
+pub fn put_short_text(words: &[u8], page: &mut Sheet<'_>)
+    ensures { LaidOn 8 8 (take 8 words.now) (low_bytes 8 (number_made (take 8 words.now))) page.old page.new }
 {
-    put_piece(page, at, piece_of(words, 0), words.len().min(8))
+    put_piece(piece_of(words, 0), words.len().min(8), page);
 }
 
 // A word of at most sixteen bytes: the first eight of them, the others, each the lowest first, and how many there are.
@@ -170,15 +167,14 @@ pub fn word_of(words: &[u8]) -> Word
     }
 }
 
-pub fn put_word(page: &mut [u8], at: usize, word: Word) -> usize
-    ensures { Laid 16 16 page.old at (bytes_of_word word) (low_bytes 8 word.low ++ low_bytes 8 word.high) page.new result }
+pub fn put_word(word: Word, page: &mut Sheet<'_>)
+    ensures { LaidOn 16 16 (bytes_of_word word) (low_bytes 8 word.low ++ low_bytes 8 word.high) page.old page.new }
 {
-    if has_room(page.len(), at, 16) {
-        put_eight(page, at, word.low);
-        put_eight(page, at + 8, word.high);
-        at + word.count.min(16)
-    } else {
-        at
+    if has_room(16, page) {
+        let end = page.at + word.count.min(16);
+        put_eight(word.low, page);
+        put_eight(word.high, page);
+        page.at = end;
     }
 }
 
@@ -191,36 +187,32 @@ fn hex_digit(digit: u8) -> u8
 }
 
 // The two digits of a byte.
-fn put_two(page: &mut [u8], at: usize, byte: u8)
-    requires { at + 2 ≤ length page.old }
-    ensures { page.new ≡ sets page.old at (hex_digit (byte / 16) ∷ hex_digit (byte % 16) ∷ []) }
+fn put_two(byte: u8, page: &mut Sheet<'_>)
+    requires { room_for 2 page.old }
+    ensures { page.new ≡ put_on (hex_digit (byte / 16) ∷ hex_digit (byte % 16) ∷ []) page.old }
 {
-    page[at] = hex_digit(byte / 16);
-    page[at + 1] = hex_digit(byte % 16);
+    page.buffer[page.at] = hex_digit(byte / 16);
+    page.buffer[page.at + 1] = hex_digit(byte % 16);
+    page.at += 2;
 }
 
 // The eight digits of a number.
-#[tactic(auto, using(crate::proofs::Pages::digits_stored))]
-fn put_all_digits(page: &mut [u8], at: usize, number: u32)
-    requires { at + 8 ≤ length page.old }
-    ensures { page.new ≡ sets page.old at (hexadecimal 8 number) }
+fn put_all_digits(number: u32, page: &mut Sheet<'_>)
+    requires { room_for 8 page.old }
+    ensures { page.new ≡ put_on (hexadecimal 8 number) page.old }
 {
     let [first, second, third, fourth] = number.to_be_bytes();
-    put_two(page, at, first);
-    put_two(page, at + 2, second);
-    put_two(page, at + 4, third);
-    put_two(page, at + 6, fourth);
+    put_two(first, page);
+    put_two(second, page);
+    put_two(third, page);
+    put_two(fourth, page);
 }
 
 // Eight digits of a number in hexadecimal, leading zeros too.
-#[tactic(auto, using(crate::proofs::Pages::digits))]
-pub fn put_hexadecimal(page: &mut [u8], at: usize, number: u32) -> usize
-    ensures { Laid 8 8 page.old at (hexadecimal 8 number) (hexadecimal 8 number) page.new result }
+pub fn put_hexadecimal(number: u32, page: &mut Sheet<'_>)
+    ensures { LaidOn 8 8 (hexadecimal 8 number) (hexadecimal 8 number) page.old page.new }
 {
-    if has_room(page.len(), at, 8) {
-        put_all_digits(page, at, number);
-        at + 8
-    } else {
-        at
+    if has_room(8, page) {
+        put_all_digits(number, page);
     }
 }

@@ -4,31 +4,24 @@
 
 ghost use Rattle.std.specs.Prelude.{◌≡◌};
 ghost use Rattle.kit.specs.Put.{Poured};
+ghost use Rattle.text.specs.Putting.{put_on};
 ghost use Rattle.signals_output.specs.Lines.{line_of};
 ghost use Rattle.signal_runs.specs.Runs.{updated_by, signal_lines};
 
 use frames::{Calls, NO_TELEGRAM, WholeCall};
 use signals::Signals;
-
-// The record after a call, and the place past its line.
-#[derive(Clone, Copy)]
-struct Spoken {
-    signals: Signals,
-    at: usize,
-}
+use text::Sheet;
 
 // One call: its line, and the next record. The record is lent for the call and updated where it is.
 #[tactic(auto, unfolding(crate::specs::Runs::updated_by, signals::specs::Signals::update_of))]
-fn tell(signals: Signals, call: WholeCall, lines: &mut [u8], at: usize) -> Spoken
-    ensures { (result.signals ≡ (updated_by signals (call.entry.length, call.entry.bytes.now)).signals)
-        × Poured lines.old at (line_of (updated_by signals (call.entry.length, call.entry.bytes.now))) lines.new result.at }
+fn tell(signals: Signals, call: WholeCall, sheet: &mut Sheet<'_>) -> Signals
+    ensures { (result ≡ (updated_by signals (call.entry.length, call.entry.bytes.now)).signals)
+        × (sheet.new ≡ put_on (line_of (updated_by signals (call.entry.length, call.entry.bytes.now))) sheet.old) }
 {
     let telegram = (call.length != NO_TELEGRAM).then_some(call.bytes);
     let updated = signals_in_place::lend_and_update_by(signals, telegram);
-    Spoken {
-        signals: updated.signals,
-        at: signals_output::put_line(updated, lines, at),
-    }
+    signals_output::put_line(updated, sheet);
+    updated.signals
 }
 
 // The lines of all calls, from a fresh record on, and `short call` where the input ends inside one; the answer is the place past them.
@@ -36,19 +29,18 @@ fn tell(signals: Signals, call: WholeCall, lines: &mut [u8], at: usize) -> Spoke
 pub fn read(input: &[u8], lines: &mut [u8]) -> usize
     ensures { Poured lines.old 0 (signal_lines input.now) lines.new result }
 {
+    let mut sheet = Sheet::on(lines, 0);
     let mut signals = Signals::fresh();
-    let mut at: usize = 0;
     let calls = Calls {
         rest: input,
         bare: Some(NO_TELEGRAM),
     };
     for call in calls {
         let Ok(call) = call else {
-            return signals_output::put_short(lines, at);
+            signals_output::put_short(&mut sheet);
+            return sheet.at;
         };
-        let told = tell(signals, call, lines, at);
-        signals = told.signals;
-        at = told.at;
+        signals = tell(signals, call, &mut sheet);
     }
-    at
+    sheet.at
 }

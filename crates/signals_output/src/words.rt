@@ -1,13 +1,13 @@
 // The words for the states of signals on a page, each with a blank before it. Each stands in a call of its own, so that its bytes are
 // packed when this is compiled; a `Display` would write them through a formatter, byte by byte. Three functions of one shape, and not
 // one: it would take the words of a state from a trait, whose three impls are what stands here.
-ghost use Rattle.std.specs.Prelude.{◌≡◌, length, ◌+◌, ◌≤◌};
-ghost use Rattle.page.specs.Pages.{Paged};
+ghost use Rattle.std.specs.Prelude.{◌≡◌};
+ghost use Rattle.page.specs.Pages.{room_for, PagedOn};
 ghost use Rattle.page.specs.Words.{bytes_of_word};
 ghost use Rattle.state_words.specs.Words.{cab_word, brake_word, isolation_word, traction_word};
 
 use page::Word;
-use text::BLANK;
+use text::{BLANK, Sheet};
 use train_codes::{Brake, Cab, Isolation, Traction};
 
 #[tactic(auto, unfolding(page::specs::Words::bytes_of_word, page::specs::Words::packed_word, page::specs::Packed::number_made, page::specs::Packed::low_bytes))]
@@ -49,15 +49,15 @@ pub fn isolation_word(isolation: Isolation) -> Word
     }
 }
 
-pub fn put_traction(traction: Traction, page: &mut [u8], at: usize) -> usize
-    requires { at + 16 ≤ length page.old }
-    ensures { Paged 16 page.old at (traction_word traction) page.new result }
+pub fn put_traction(traction: Traction, page: &mut Sheet<'_>)
+    requires { room_for 16 page.old }
+    ensures { PagedOn 16 (traction_word traction) page.old page.new }
 {
     match traction {
-        Traction::Silent => page::put_short_text(page, at, b" silent"),
+        Traction::Silent => page::put_short_text(b" silent", page),
         Traction::Supported(systems) => {
-            let next = page::put_byte(page, at, BLANK);
-            page::put_hexadecimal(page, next, systems)
+            page::put_byte(BLANK, page);
+            page::put_hexadecimal(systems, page);
         }
     }
 }

@@ -2,7 +2,7 @@
 use Prim.Native.Nat.{ℕ, ◌*◌}
 use mathlib.Core.List.{List}
 use Rattle.kit.specs.Each.{each}
-use Rattle.page.specs.Pages.{Paged}
+use Rattle.page.specs.Pages.{PagedOn}
 use Rattle.memory.specs.Memory.{picture_in, marks_in}
 use Rattle.listing_tables.specs.Tables.{entry_at}
 use Rattle.listing_tables.proofs.put_picture.Given as goal
@@ -12,4 +12,4 @@ abbrev pub lines : List ℕ → ℕ → List ℕ
 lines memory = entry_at (picture_in memory) (marks_in memory)
 
 abbrev pub invariant-loop-i : goal.invariant-loop-i
-invariant-loop-i l = Paged (37 * l.i) l.initial.page l.initial.next (each (lines l.memory) 0 l.i) l.page l.next
+invariant-loop-i l = PagedOn (37 * l.i) (each (lines l.memory) 0 l.i) l.initial.page l.page

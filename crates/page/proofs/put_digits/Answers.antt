@@ -3,7 +3,7 @@ use Prim.Native.Nat.{◌+◌}
 use mathlib.Core.Path.{sym, ap, ◌∙◌}
 use native.Mathlib.Omega.{arith}
 use Rattle.page.specs.Packed.{low_bytes}
-use Rattle.page.proofs.Pages.{laid_as}
+use Rattle.page.proofs.Sheets.{laid_on_as}
 use mir.Val.{bool_byte}
 use Rattle.page.proofs.Packed.{flags_fit, most_if, five_piece, five-shown}
 use Rattle.page.proofs.put_digits.Goals as goal
@@ -22,4 +22,4 @@ returns c =
     let wanted = c.args.wanted in
     let piece = five_piece number after digits.result c.ranges.number.fits c.ranges.after.fits digits.ensures.0 c.last_four.result c.last_four.ensures in
     let shown = five-shown number after digits.result c.ranges.number.fits c.ranges.after.fits digits.ensures.0 wanted in
-    laid_as (shown ∙ ap (low_bytes (digits.result + 1 + bool_byte wanted)) (sym piece)) (ap (low_bytes 8) (sym piece)) (most_if wanted digits.result digits.ensures.1) c.put_piece.ensures
+    laid_on_as (shown ∙ ap (low_bytes (digits.result + 1 + bool_byte wanted)) (sym piece)) (ap (low_bytes 8) (sym piece)) (most_if wanted digits.result digits.ensures.1) c.put_piece.ensures

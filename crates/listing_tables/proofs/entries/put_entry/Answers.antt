@@ -8,20 +8,20 @@ use Rattle.listing_words.specs.Words.{distance_text}
 use Rattle.listing_seconds.specs.Seconds.{second_word}
 use Rattle.listing_entries.specs.Entries.{entry_words}
 use Rattle.listing_entries.proofs.Entries.{entry-empty, entry_occupied}
-use Rattle.page.proofs.Pages.{paged-none, paged_as, paged-then, paged-most}
+use Rattle.page.proofs.Sheets.{on-none, on_as, on-then, on-most}
 use Rattle.listing_tables.proofs.Words.{numbers-then}
 use Rattle.listing_tables.proofs.entries.put_entry.Goals as goal
 
 pub returns-then-not-is_occupied : goal.returns-then-not-is_occupied
-returns-then-not-is_occupied c = paged_as (entry-empty _ _ _ (sym c.is_occupied.ensures ∙ c.if-not-is_occupied.true)) (paged-most (omega arith) paged-none)
+returns-then-not-is_occupied c = on_as (entry-empty _ _ _ (sym c.is_occupied.ensures ∙ c.if-not-is_occupied.true)) (on-most (omega arith) on-none)
 
 pub returns : goal.returns
 unfolding entry_words
 returns c =
     let coded = c.coded_of-coded in
-    paged_as (entry_occupied _ _ _ (sym c.is_occupied.ensures ∙ c.if-not-is_occupied.false))
-    (paged-then
-    (paged_as (numbers-then c.args.place c.args.slot coded.result coded.ensures) c.put_numbers-second.ensures)
-    (paged-then
-    (paged_as (ap (λ (as-coded : Coded). distance_text as-coded.first ++ ((blank ∷ []) ++ (second_word c.args.slot.body ++ (blank ∷ [])))) (sym coded.ensures)) c.put_both-third.ensures)
+    on_as (entry_occupied _ _ _ (sym c.is_occupied.ensures ∙ c.if-not-is_occupied.false))
+    (on-then
+    (on_as (numbers-then c.args.place c.args.slot coded.result coded.ensures) c.put_numbers.ensures)
+    (on-then
+    (on_as (ap (λ (as-coded : Coded). distance_text as-coded.first ++ ((blank ∷ []) ++ (second_word c.args.slot.body ++ (blank ∷ [])))) (sym coded.ensures)) c.put_both.ensures)
     c.put_mark.ensures))
