@@ -2,25 +2,35 @@
 // them, in a lent buffer.
 #![tactic(auto)]
 
+ghost use Rattle.std.specs.Prelude.{◌≡◌};
 ghost use Rattle.kit.specs.Put.{Poured};
+ghost use Rattle.text.specs.Putting.{put_on};
 ghost use Rattle.hearing_runs.specs.Runs.{lines_heard};
 
-// The lines of all telegrams, heard by a fresh listener, and `short telegram` where the input ends inside one; the answer is the place
-// past them. What has no room before the buffer's end is dropped.
+use text::Sheet;
+
+// The lines of all telegrams, heard by a fresh listener, and `short telegram` where the input ends inside one.
 #[tactic(auto, using(frames::proofs::Splitting::call_bounds))]
-pub fn hear(input: &[u8], lines: &mut [u8]) -> usize
-    ensures { Poured lines.old 0 (lines_heard input.now) lines.new result }
+fn hear_all(input: &[u8], lines: &mut Sheet<'_>)
+    ensures { lines.new ≡ put_on (lines_heard input.now) lines.old }
 {
     let mut memory = [0u8; 310];
     let mut rest = input;
-    let mut at: usize = 0;
     while !rest.is_empty() {
         let Some(size) = frames::call_size(rest, None) else {
-            return text::put_words(lines, at, b"short telegram\n");
+            return lines.put_words(b"short telegram\n");
         };
         let answer = listener::hear_in(&mut memory, &rest[frames::LENGTH..size]);
-        at = listing_tables::put_heard(answer, &memory, lines, at);
+        listing_tables::put_heard(answer, &memory, lines);
         rest = &rest[size..];
     }
-    at
+}
+
+// The same from a lent buffer's start on. The answer is the place past the lines; what has no room before the buffer's end is dropped.
+pub fn hear(input: &[u8], lines: &mut [u8]) -> usize
+    ensures { Poured lines.old 0 (lines_heard input.now) lines.new result }
+{
+    let mut sheet = Sheet::on(lines, 0);
+    hear_all(input, &mut sheet);
+    sheet.at
 }
