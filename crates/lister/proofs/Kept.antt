@@ -5,7 +5,7 @@ use mathlib.Core.List.{List, [], ◌∷◌, ◌++◌, append_assoc, append-nil}
 use lib.ListN.{length, take, drop, replicate, length-append, length-replicate}
 use lib.Seq.{sets, sets-eq, take_at, take-append_seam, drop-append-add, drop-nil}
 use native.Mathlib.Omega.{arith}
-use Rattle.kit.specs.Put.{Put}
+use Rattle.kit.specs.Put.{Poured}
 use Rattle.listener.specs.Answers.{Hearing}
 use Rattle.listener.specs.declared.Listener.{Listener}
 use Rattle.listing_tables.specs.Tables.{heard_lines, tables_of}
@@ -130,7 +130,7 @@ drop-replicate (suc k) zero = let e : 0 ≡ 0 - suc k = omega arith in drop-nil 
 drop-replicate (suc k) (suc n) = let e : n - k ≡ suc n - suc k = omega arith in drop-replicate k n ∙ ap (λ (m : ℕ). zeros m) e
 
 module _ {lister : Lister} {bytes : List ℕ} (k : Kept lister bytes) {piece after : List ℕ} {next : ℕ} (room : lister.kept + length piece ≤ 26)
-    (p : Put lister.tail lister.kept piece after next) where
+    (p : Poured lister.tail lister.kept piece after next) where
   both_long : length (bytes ++ piece) ≡ lister.kept + length piece
   both_long = omega (arith, length-append bytes piece, k.counted)
 
@@ -149,7 +149,10 @@ module _ {lister : Lister} {bytes : List ℕ} (k : Kept lister bytes) {piece aft
       ∙ ap (λ (l : List ℕ). (bytes ++ piece) ++ l) (drop-append-add bytes filler (length piece) ∙ (drop-replicate (length piece) (26 - length bytes) ∙ ap (λ (n : ℕ). zeros n) left))))))
 
   pub filled-to : next ≡ length (bytes ++ piece)
-  filled-to = p.past ∙ sym both_long
+  filled-to =
+      let filler = zeros (26 - length bytes) in
+      let long : length lister.tail ≡ 26 = ap length k.stored ∙ omega (arith, length-append bytes filler, length-replicate {A = ℕ} (26 - length bytes) 0, k.short) in
+      omega (arith, p.past, both_long, long)
 
   -- a telegram that is whole now is what stands there
   pub filled-whole : 26 ≤ next → (after ≡ bytes ++ piece) × (length (bytes ++ piece) ≡ 26)

@@ -1,12 +1,12 @@
 -- `bite`: the bytes are put behind those that were kept. With 26 of them the telegram is heard, otherwise all are kept.
 use Prim.Native.Nat.{ℕ, ◌+◌, ◌-◌, ◌<◌, ◌≤◌}
-use mathlib.Core.Path.{◌≡◌, refl, ap, sym, ◌∙◌}
+use mathlib.Core.Path.{◌≡◌, ap, sym, ◌∙◌}
 use mathlib.Core.List.{List, [], ◌∷◌, ◌++◌}
 use lib.ListN.{length}
 use lib.Seq.{sets}
 use borrow.Rule.Slice.PartMut.{put_mid}
 use native.Mathlib.Omega.{arith}
-use Rattle.kit.specs.Put.{Put}
+use Rattle.kit.specs.Put.{Poured}
 use Rattle.text.specs.Putting.{put_on}
 use Rattle.text.specs.declared.sheets.Sheet.{Sheet}
 use Rattle.text.proofs.Putting.{put_none}
@@ -18,7 +18,7 @@ use Rattle.lister.proofs.Kept.{state, made_kept, filled, filled-to, filled-whole
 use borrow.Author.Rules.{rules}
 use Rattle.lister.proofs.bite.Goals as goal
 
-module _ {lister : Lister} (m : MadeByPieces lister) {piece after : List ℕ} {next : ℕ} (room : lister.kept + length piece ≤ 26) (p : Put lister.tail lister.kept piece after next)
+module _ {lister : Lister} (m : MadeByPieces lister) {piece after : List ℕ} {next : ℕ} (room : lister.kept + length piece ≤ 26) (p : Poured lister.tail lister.kept piece after next)
     (before : Sheet) where
   whole : 26 ≤ next → {r : Lister} {sheet : Sheet} → r ≡ keeping lister (after ∷ []) [] → sheet ≡ put_on (lines_for lister.listener (after ∷ [])) before
       → (r ≡ take_of lister piece) × (sheet ≡ put_on (piece_lines lister piece) before)
@@ -41,9 +41,9 @@ module _ {lister : Lister} (m : MadeByPieces lister) {piece after : List ℕ} {n
 
 -- the bytes copied into a part of the tail
 stored : {tail piece part : List ℕ} {kept : ℕ} → length tail ≡ 26 → kept + length piece ≤ 26 → part ≡ piece
-    → Put tail kept piece (put_mid kept (kept + length piece - kept) tail part) (kept + length piece)
+    → Poured tail kept piece (put_mid kept (kept + length piece - kept) tail part) (kept + length piece)
 stored {tail} {piece} {part} {kept} long room same =
-    record { stored = part_sets tail part kept (kept + length piece - kept) (omega (arith, long, room)) (ap length same ∙ omega arith) ∙ ap (sets tail kept) same; past = refl }
+    record { stored = part_sets tail part kept (kept + length piece - kept) (omega (arith, long, room)) (ap length same ∙ omega arith) ∙ ap (sets tail kept) same; past = omega (arith, long, room) }
 
 pub returns-then-kept-ge-LENGTH : goal.returns-then-kept-ge-LENGTH
 returns-then-kept-ge-LENGTH c =
