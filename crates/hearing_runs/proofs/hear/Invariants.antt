@@ -1,7 +1,7 @@
--- `hear`: what is poured and the lines of what is left of the input make the whole, turn by turn; no length is bare.
+-- `hear`: the lines of what is left of the input, put after those so far, make the whole, turn by turn; no length is bare.
 use mathlib.Core.Path.{◌≡◌}
 use Rattle.std.specs.Prelude.{None}
-use Rattle.frames.proofs.Pouring.{Pouring}
+use Rattle.text.specs.Putting.{put_on}
 use Rattle.listener.specs.Lent.{listener_in}
 use Rattle.hearing_runs.specs.Runs.{lines_heard_by, lines_heard}
 use Rattle.hearing_runs.proofs.hear.Given as goal
@@ -9,5 +9,5 @@ use Rattle.hearing_runs.proofs.hear.Given as goal
 abbrev pub invariant-loop-telegram : goal.invariant-loop-telegram
 invariant-loop-telegram l = record {
   bare : l.telegram-iterator.bare ≡ None;
-  goes : Pouring l.initial.lines (lines_heard l.fn.input) l.lines l.at (lines_heard_by (listener_in l.memory) l.telegram-iterator.rest.now);
+  goes : put_on (lines_heard_by (listener_in l.memory) l.telegram-iterator.rest.now) l.sheet ≡ put_on (lines_heard l.fn.input) l.initial.sheet;
 }
