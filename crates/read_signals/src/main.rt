@@ -11,6 +11,7 @@ use outcomes::{End, Progress};
 use program::Program;
 use signals::{Signals, Updated};
 use streams::{Output, Source, Stopped, System};
+use text::Sheet;
 
 fn main(rt: HostRuntime) {
     let system = System {
@@ -54,7 +55,9 @@ fn take(system: System, signals: &mut Signals, telegram: Option<&[u8]>) -> Resul
 
 fn show_line(system: System, updated: Updated) -> Result<(), Stopped> {
     let mut line = [0u8; 256];
-    let n = signals_output::put_line(updated, &mut line, 0);
+    let mut sheet = Sheet::on(&mut line, 0);
+    signals_output::put_line(updated, &mut sheet);
+    let n = sheet.at;
     system.write(Output::Standard, &line[..n])
 }
 
