@@ -23,7 +23,7 @@ fn tell(signals: Signals, announced: u16, bytes: &[u8], lines: &mut [u8], at: us
         × Poured lines.old at (line_of (updated_by signals (announced, bytes.now))) lines.new result.at }
 {
     let telegram = (announced != frames::NO_TELEGRAM).then_some(bytes);
-    let updated = signals_in_place::lend_and_update(signals, telegram);
+    let updated = signals_in_place::lend_and_update_by(signals, telegram);
     Spoken {
         signals: updated.signals,
         at: signals_output::put_line(updated, lines, at),
