@@ -15,11 +15,12 @@ ghost use Rattle.summary.specs.Tallies.{counted_piece};
 ghost use Rattle.summary.specs.Summaries.{summary_of};
 ghost use Rattle.listing_room.specs.Rooms.{piece_room, lines_room, header_room, end_room};
 
-use lister::{Listed, Lister};
+use lister::Lister;
 use outcomes::{Progress, State};
 use program::{Asked, Program};
 use streams::{Output, Source, Stopped, System};
 use summary::Tally;
+use text::Sheet;
 
 fn main(rt: HostRuntime) {
     let system = System {
@@ -87,7 +88,9 @@ fn put_header(out: &mut [u8]) -> usize
     requires { length out.old ≡ header_room }
     ensures { Put out.old 0 header_line out.new result }
 {
-    listing_lines::put_header(out, 0)
+    let mut sheet = Sheet::on(out, 0);
+    listing_lines::put_header(&mut sheet);
+    sheet.at
 }
 
 // Writes the header.
@@ -98,11 +101,13 @@ fn show_header(system: System) -> Result<(), Stopped> {
 }
 
 // Puts the lines of one piece. It asks for the sizes for which it is proved that all of them have room (listing_room/proofs/Room.antt).
-fn put_piece(lister: Lister, piece: &[u8], out: &mut [u8]) -> Listed
-    requires { MadeByPieces lister × (length piece.now ≤ piece_room) × (length out.old ≡ lines_room) }
-    ensures { (result.lister ≡ take_of lister piece.now) × Poured out.old 0 (piece_lines lister piece.now) out.new result.at }
+fn put_piece(lister: &mut Lister, piece: &[u8], out: &mut [u8]) -> usize
+    requires { MadeByPieces lister.old × (length piece.now ≤ piece_room) × (length out.old ≡ lines_room) }
+    ensures { (lister.new ≡ take_of lister.old piece.now) × Poured out.old 0 (piece_lines lister.old piece.now) out.new result }
 {
-    lister.take(piece, out, 0)
+    let mut sheet = Sheet::on(out, 0);
+    *lister = lister.take(piece, &mut sheet);
+    sheet.at
 }
 
 // Writes the lines of one piece.
@@ -115,9 +120,8 @@ fn show_piece(
     requires { MadeByPieces lister.old × (length piece.now ≤ piece_room) × (length out.old ≡ lines_room) }
     ensures { lister.new ≡ take_of lister.old piece.now }
 {
-    let listed = put_piece(*lister, piece, out);
-    *lister = listed.lister;
-    system.write(Output::Standard, &out[..listed.at])
+    let n = put_piece(lister, piece, out);
+    system.write(Output::Standard, &out[..n])
 }
 
 // Puts what stands at the end: where the input has ended, the line of a short tail and the last line, all of both, since the buffer has the
@@ -127,7 +131,9 @@ fn put_end(state: State, lister: Lister, out: &mut [u8]) -> usize
     ensures { Put out.old 0 (at_the_end state (end_of lister)) out.new result }
 {
     if outcomes::is_ended(state) {
-        listing::finish(lister, out, 0)
+        let mut sheet = Sheet::on(out, 0);
+        listing::finish(lister, &mut sheet);
+        sheet.at
     } else {
         0
     }
