@@ -3,8 +3,8 @@
 ghost use Rattle.std.specs.Prelude.{◌≡◌};
 ghost use Rattle.outcomes.specs.Outcomes.{after_read, after_write, is_again, is_over, is_failed, is_ended};
 
-// Go on; do it again; the input has ended; it failed. Own cases and no Result: which of them is an error is another thing for a read than for
-// a write, and `is_again`, `is_ended`, `is_failed` and `is_over` answer of each.
+// Go on; do it again; the input has ended; it failed. Own cases and no Result: which of them is an error is another thing for a read than
+// for a write, and `is_again`, `is_ended`, `is_failed` and `is_over` answer of each.
 #[derive(Clone, Copy, Debug, PartialEq, Eq)]
 pub enum State {
     More,
