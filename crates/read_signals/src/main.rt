@@ -3,8 +3,8 @@
 #![tactic(auto)]
 
 ghost use Rattle.std.specs.Prelude.{◌≡◌, option_copied};
-ghost use Rattle.kit.specs.Put.{Poured};
 ghost use Rattle.outcomes.specs.Ends.{where_short};
+ghost use Rattle.text.specs.Putting.{put_on};
 ghost use Rattle.signals.specs.Signals.{update_by};
 ghost use Rattle.signals_output.specs.Lines.{short_call_line};
 
@@ -12,6 +12,7 @@ use outcomes::{End, Progress};
 use program::Program;
 use signals::{Signals, Updated};
 use streams::{Output, Source, System};
+use text::Sheet;
 
 fn main(rt: HostRuntime) {
     let system = System {
@@ -54,26 +55,31 @@ fn take(system: System, signals: &mut Signals, telegram: Option<&[u8]>) -> bool
     show_line(system, updated)
 }
 
+#[tactic(auto, unfolding(text::specs::Putting::put_on))]
 fn show_line(system: System, updated: Updated) -> bool {
     let mut line = [0u8; 256];
-    let n = signals_output::put_line(updated, &mut line, 0);
+    let mut sheet = Sheet::on(&mut line, 0);
+    signals_output::put_line(updated, &mut sheet);
+    let n = sheet.at;
     system.write(Output::Standard, &line[..n])
 }
 
 // Puts the line on a call that is not whole, where the input has ended inside one; after a read that failed, nothing. One function for this
 // program and `run_desk` would be no shorter: it would be lent `put_short` of each as a closure, and a contract on what that puts.
-fn put_end(end: End, line: &mut [u8]) -> usize
-    ensures { Poured line.old 0 (where_short end short_call_line) line.new result }
+#[tactic(auto, unfolding(outcomes::specs::Ends::where_short), using(text::proofs::Putting::put_none))]
+fn put_end(end: End, line: &mut Sheet<'_>)
+    ensures { line.new ≡ put_on (where_short end short_call_line) line.old }
 {
     if outcomes::is_short(end) {
-        signals_output::put_short(line, 0)
-    } else {
-        0
+        signals_output::put_short(line);
     }
 }
 
+#[tactic(auto, unfolding(text::specs::Putting::put_on))]
 fn show_end(system: System, end: End) {
     let mut line = [0u8; 11];
-    let n = put_end(end, &mut line);
+    let mut sheet = Sheet::on(&mut line, 0);
+    put_end(end, &mut sheet);
+    let n = sheet.at;
     system.write(Output::Standard, &line[..n]);
 }
