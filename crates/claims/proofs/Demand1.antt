@@ -10,7 +10,6 @@ use borrow.Author.Tests.{ne_eqb}
 use Rattle.kit.specs.Ladder.{NoneHolds}
 use Rattle.kit.proofs.Cases.{given}
 use Rattle.kit.proofs.Contracts.{agree, both_facts}
-use Rattle.std.specs.Prelude.{option_copied}
 use Rattle.wire.specs.Verdicts.{Verdict, verdict_refused, ruled_refused, ruling_of, verdict_in}
 use Rattle.wire.proofs.Answers.{ruling_apart}
 use Rattle.wire.proofs.Results.{verdict_in-apart}
@@ -34,8 +33,6 @@ use Rattle.signals.specs.Signals.{missed_by, update_of}
 use Rattle.signals.specs.declared.Signals.{Signals}
 use Rattle.signals.proofs.Answers.{noted-apart, updating_apart}
 use Rattle.signals.proofs.Promises as train-promises
-use Rattle.claims.specs.Functions.{with_one, bytes_in}
-use Rattle.claims.proofs.Functions.{update_call}
 use Rattle.claims.specs.Demand1.{RefusedBy, Lists, Telegrams, TelegramsLent, TrainTelegrams, TrainTelegramsLent, Buffers, Demand1}
 
 -- what is proved of a verdict is proved of what it tells
@@ -105,47 +102,29 @@ train : TrainTelegrams
 train =
     record {
       defined = λ κs handed answer other lasts others p q. (updating_apart answer other (agree p q), refl);
-      refused = λ κs (signals, (telegram, _)) updated lasts p.
-          let call = option_copied telegram in
-          let q = p ∙ update_call signals call in
-          subst⁻¹ (λ (u : Updating). with_one call ≡ true → RefusedBy (train_rows (bytes_in call)) refusal_under u.noted) q (call_refused signals (bytes_in call) (with_one call));
-      accepted_when = λ κs (signals, (telegram, _)) updated lasts p.
-          let call = option_copied telegram in
-          let q = p ∙ update_call signals call in
-          subst⁻¹ (λ (u : Updating). with_one call ≡ true → (u.noted ≡ acceptance) ↔ NoneHolds (train_rows (bytes_in call))) q (call_accepted signals (bytes_in call) (with_one call));
-      absent = λ κs (signals, (telegram, _)) updated lasts p.
-          let call = option_copied telegram in
-          let q = p ∙ update_call signals call in
-          subst⁻¹ (λ (u : Updating). with_one call ≡ false → (u.noted ≡ absence) × (u.signals ≡ missed_by signals)) q (call_absent signals (bytes_in call) (with_one call));
-      missed = λ κs (signals, (telegram, _)) updated lasts p.
-          let call = option_copied telegram in
-          let q = p ∙ update_call signals call in
-          subst⁻¹ (λ (u : Updating). (number : ℕ) → u.noted ≡ refusal_under number → u.signals ≡ missed_by signals) q (call_missed signals (bytes_in call) (with_one call));
+      refused = λ κs (signals, (present, (telegram, _))) updated lasts p.
+          subst⁻¹ (λ (u : Updating). present ≡ true → RefusedBy (train_rows telegram.now) refusal_under u.noted) p (call_refused signals telegram.now present);
+      accepted_when = λ κs (signals, (present, (telegram, _))) updated lasts p.
+          subst⁻¹ (λ (u : Updating). present ≡ true → (u.noted ≡ acceptance) ↔ NoneHolds (train_rows telegram.now)) p (call_accepted signals telegram.now present);
+      absent = λ κs (signals, (present, (telegram, _))) updated lasts p.
+          subst⁻¹ (λ (u : Updating). present ≡ false → (u.noted ≡ absence) × (u.signals ≡ missed_by signals)) p (call_absent signals telegram.now present);
+      missed = λ κs (signals, (present, (telegram, _))) updated lasts p.
+          subst⁻¹ (λ (u : Updating). (number : ℕ) → u.noted ≡ refusal_under number → u.signals ≡ missed_by signals) p (call_missed signals telegram.now present);
     }
 
 train_lent : TrainTelegramsLent
 train_lent =
     record {
       defined = λ M 𝓤 𝓛 mem run κs handed ghost answer other lasts others.
-          both_facts 𝓤 _ _ _ (λ p q. (noted-apart answer other (agree p.0 q.0), ap (λ after. (after, (tt, tt))) (agree p.1 q.1)));
-      refused = λ M 𝓤 𝓛 mem run κs (held, (telegram, _)) ghost answer lasts.
-          let call = option_copied telegram in
-          let same = update_call held.now call in
-          fact_mono 𝓤 _ _ (λ p. subst⁻¹ (λ a. with_one call ≡ true → RefusedBy (train_rows (bytes_in call)) refusal_under a) (p.0 ∙ ap (λ (u : Updating). u.noted) same) (call_refused held.now (bytes_in call) (with_one call)));
-      accepted_when = λ M 𝓤 𝓛 mem run κs (held, (telegram, _)) ghost answer lasts.
-          let call = option_copied telegram in
-          let same = update_call held.now call in
-          fact_mono 𝓤 _ _ (λ p. subst⁻¹ (λ a. with_one call ≡ true → (a ≡ acceptance) ↔ NoneHolds (train_rows (bytes_in call))) (p.0 ∙ ap (λ (u : Updating). u.noted) same) (call_accepted held.now (bytes_in call) (with_one call)));
-      absent = λ M 𝓤 𝓛 mem run κs (held, (telegram, _)) ghost answer lasts.
-          let call = option_copied telegram in
-          let same = update_call held.now call in
-          fact_mono 𝓤 _ _ (λ p none. given (call_absent held.now (bytes_in call) (with_one call) none) (λ (noted, kept). (p.0 ∙ (ap (λ (u : Updating). u.noted) same ∙ noted), p.1 ∙ (ap (λ (u : Updating). u.signals) same ∙ kept))));
-      missed = λ M 𝓤 𝓛 mem run κs (held, (telegram, _)) ghost answer lasts.
-          let call = option_copied telegram in
-          let same = update_call held.now call in
-          fact_mono 𝓤 _ _ (λ p number e.
-          p.1 ∙ (ap (λ (u : Updating). u.signals) same
-          ∙ call_missed held.now (bytes_in call) (with_one call) number (sym (p.0 ∙ ap (λ (u : Updating). u.noted) same) ∙ e)));
+          both_facts 𝓤 _ _ _ (λ p q. (noted-apart answer other (agree p.0 q.0), ap (λ after. (after, (tt, (tt, tt)))) (agree p.1 q.1)));
+      refused = λ M 𝓤 𝓛 mem run κs (held, (present, (telegram, _))) ghost answer lasts.
+          fact_mono 𝓤 _ _ (λ p. subst⁻¹ (λ a. present ≡ true → RefusedBy (train_rows telegram.now) refusal_under a) p.0 (call_refused held.now telegram.now present));
+      accepted_when = λ M 𝓤 𝓛 mem run κs (held, (present, (telegram, _))) ghost answer lasts.
+          fact_mono 𝓤 _ _ (λ p. subst⁻¹ (λ a. present ≡ true → (a ≡ acceptance) ↔ NoneHolds (train_rows telegram.now)) p.0 (call_accepted held.now telegram.now present));
+      absent = λ M 𝓤 𝓛 mem run κs (held, (present, (telegram, _))) ghost answer lasts.
+          fact_mono 𝓤 _ _ (λ p none. given (call_absent held.now telegram.now present none) (λ (noted, kept). (p.0 ∙ noted, p.1 ∙ kept)));
+      missed = λ M 𝓤 𝓛 mem run κs (held, (present, (telegram, _))) ghost answer lasts.
+          fact_mono 𝓤 _ _ (λ p number e. p.1 ∙ call_missed held.now telegram.now present number (sym p.0 ∙ e));
     }
 
 buffers : Buffers

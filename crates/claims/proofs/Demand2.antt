@@ -10,10 +10,7 @@ use Rattle.kit.specs.Bytes.{Bytes, bit}
 use Rattle.kit.proofs.Cases.{given}
 use Rattle.wire.specs.Distances.{InRange, distance_word}
 use Rattle.wire.specs.Verdicts.{verdict_accepted, ruling_of, verdict_in}
-use Rattle.std.specs.Prelude.{option_copied}
 use Rattle.wire.proofs.Answers.{ruling_apart}
-use Rattle.claims.specs.Functions.{with_one, bytes_in}
-use Rattle.claims.proofs.Functions.{update_call}
 use Rattle.wire.proofs.Metres.{word-said}
 use Rattle.condition.specs.Slots.{MayHold, settled, coded_of}
 use Rattle.condition.proofs.Coding.{coded-back}
@@ -89,15 +86,10 @@ coded =
       reads_so = λ κs (bytes, _) answer lasts p accepted.
           subst⁻¹ (λ (r : Reading). r.verdict ≡ verdict_accepted → Codes settled bytes.now r.telegram) p (read_codes bytes.now) (ruling_apart (reading_in answer).verdict verdict_accepted accepted);
       distances = λ κs (word, _) distance lasts p. subst⁻¹ (λ d. word < 0x10000 → InRange d × (distance_word d ≡ word)) p (word-said word);
-      signals = λ κs (signals, (telegram, _)) updated lasts p.
-          let call = option_copied telegram in
-          subst⁻¹ (λ (u : Updating). u.noted ≡ acceptance → Shows u.signals.states (bytes_in call)) (p ∙ update_call signals call) (call_shows signals (bytes_in call) (with_one call));
-      signals_lent = λ M 𝓤 𝓛 mem run κs (held, (telegram, _)) ghost answer lasts.
-          let call = option_copied telegram in
-          let same = update_call held.now call in
-          fact_mono 𝓤 _ _ (λ p accepted.
-          subst⁻¹ (λ (s : Signals). Shows s.states (bytes_in call)) (p.1 ∙ ap (λ (u : Updating). u.signals) same)
-          (call_shows held.now (bytes_in call) (with_one call) (sym (p.0 ∙ ap (λ (u : Updating). u.noted) same) ∙ accepted)));
+      signals = λ κs (signals, (present, (telegram, _))) updated lasts p.
+          subst⁻¹ (λ (u : Updating). u.noted ≡ acceptance → Shows u.signals.states telegram.now) p (call_shows signals telegram.now present);
+      signals_lent = λ M 𝓤 𝓛 mem run κs (held, (present, (telegram, _))) ghost answer lasts.
+          fact_mono 𝓤 _ _ (λ p accepted. subst⁻¹ (λ (s : Signals). Shows s.states telegram.now) p.1 (call_shows held.now telegram.now present (sym p.0 ∙ accepted)));
     }
 
 -- what was written of a desk is read as it was
@@ -138,13 +130,10 @@ unfolding record_after
 reader =
     record {
       signals_begin = λ κs handed signals lasts p. p;
-      updates = λ earlier κs (signals, (telegram, _)) updated lasts p before.
-          let call = option_copied telegram in
-          ap (λ (u : Updating). u.signals) (p ∙ update_call signals call) ∙ ap (λ (s : Signals). (update_of s (with_one call) (bytes_in call)).signals) before;
-      updates_lent = λ earlier M 𝓤 𝓛 mem run κs (held, (telegram, _)) ghost answer lasts.
-          let call = option_copied telegram in
-          fact_mono 𝓤 _ _ (λ p before.
-          p.1 ∙ (ap (λ (u : Updating). u.signals) (update_call held.now call) ∙ ap (λ (s : Signals). (update_of s (with_one call) (bytes_in call)).signals) before));
+      updates = λ earlier κs (signals, (present, (telegram, _))) updated lasts p before.
+          ap (λ (u : Updating). u.signals) p ∙ ap (λ (s : Signals). (update_of s present telegram.now).signals) before;
+      updates_lent = λ earlier M 𝓤 𝓛 mem run κs (held, (present, (telegram, _))) ghost answer lasts.
+          fact_mono 𝓤 _ _ (λ p before. p.1 ∙ ap (λ (s : Signals). (update_of s present telegram.now).signals) before);
     }
 
 -- and so is the listener

@@ -1,7 +1,7 @@
 -- What specs/Functions.antt says of a function, without the checker's own terms: a contract that is an equation promises something of
 -- every outcome that it allows exactly when that is so, whatever is handed in, of the outcome that the equation gives.
 use Prim.Native.Nat.{ℕ}
-use mathlib.Core.Path.{◌≡◌, refl, ap, subst, subst⁻¹, ◌∙◌}
+use mathlib.Core.Path.{◌≡◌, refl, subst, subst⁻¹}
 use mathlib.Core.Logic.{◌↔◌}
 use mathlib.Core.Bool.{Bool}
 use mathlib.Core.List.{List, []}
@@ -23,13 +23,12 @@ use Rattle.listener.specs.Lent.{HeardIn}
 use Rattle.listener.specs.declared.Answer as Vehicle
 use Rattle.listener.specs.declared.Heard.{Heard}
 use Rattle.listener.specs.declared.Listener.{Listener}
-use Rattle.std.specs.Prelude.{Option, None, Some, option_copied}
-use Rattle.signals.specs.Signals.{fresh_signals, update_of, update_by}
+use Rattle.signals.specs.Signals.{fresh_signals, update_of}
 use Rattle.signals.specs.declared.Answer as Train
 use Rattle.signals.specs.declared.Signals.{Signals}
-use Rattle.signals.specs.Answers.{noted_of, Updating, updating_of}
+use Rattle.signals.specs.Answers.{noted_of, updating_of}
 use Rattle.signals.specs.declared.Updated.{Updated}
-use Rattle.claims.specs.Functions.{with_one, bytes_in, OfDistance, OfRead, OfWriteTelegram, OfFreshDesk, OfAccept, OfTable, OfWrite, OfFreshListener, OfFreshSignals, OfHear, OfHearIn, OfUpdate, OfUpdateLent}
+use Rattle.claims.specs.Functions.{OfDistance, OfRead, OfWriteTelegram, OfFreshDesk, OfAccept, OfTable, OfWrite, OfFreshListener, OfFreshSignals, OfHear, OfHearIn, OfUpdate, OfUpdateLent}
 
 -- bytes that are lent, wherever they stand
 abbrev lent : List ℕ → Bor (List ℕ)
@@ -121,32 +120,18 @@ hear_in-says Such = (
   λ plain κs (memory, (telegram, _)) answer (after, _) p. plain memory.now telegram.now answer after p,
 )
 
--- what the code takes is a call with a telegram or with none
-pub update_call : (signals : Signals) (call : Option (List ℕ)) → update_by signals call ≡ update_of signals (with_one call) (bytes_in call)
-update_call signals None = refl
-update_call signals (Some telegram) = refl
-
 pub update-says : (Such : Signals → Bool → List ℕ → Updated → Type 0)
-    → OfUpdate Such
-    ↔ ((signals : Signals) (call : Option (List ℕ)) (updated : Updated) → updating_of updated ≡ update_of signals (with_one call) (bytes_in call) → Such signals (with_one call) (bytes_in call) updated)
+    → OfUpdate Such ↔ ((signals : Signals) (present : Bool) (telegram : List ℕ) (updated : Updated) → updating_of updated ≡ update_of signals present telegram → Such signals present telegram updated)
 update-says Such = (
-  λ promised. there promised,
-  λ plain κs (signals, (telegram, _)) updated lasts p. plain signals (option_copied telegram) updated (p ∙ update_call signals (option_copied telegram)),
+  λ promised signals present telegram updated p. promised ([], tt) (signals, (present, (lent telegram, tt))) updated (tt, (tt, (tt, tt))) p,
+  λ plain κs (signals, (present, (telegram, _))) updated lasts p. plain signals present telegram.now updated p,
 )
-  where
-    there : OfUpdate Such → (signals : Signals) (call : Option (List ℕ)) (updated : Updated) → updating_of updated ≡ update_of signals (with_one call) (bytes_in call)
-        → Such signals (with_one call) (bytes_in call) updated
-    there promised signals None updated p = promised ([], tt) (signals, (None, tt)) updated (tt, (tt, tt)) p
-    there promised signals (Some telegram) updated p = promised ([], tt) (signals, (Some (lent telegram), tt)) updated (tt, (tt, tt)) p
 
 -- where a record is lent, what is so of each answer and each record after it that the contract's equations allow is promised in every
 -- model of the machine
 pub update-lent-says : (Such : Signals → Bool → List ℕ → Train.Answer → Signals → Type 0)
-    → ((signals : Signals) (call : Option (List ℕ)) (answer : Train.Answer) (after : Signals)
-    → noted_of answer ≡ (update_of signals (with_one call) (bytes_in call)).noted → after ≡ (update_of signals (with_one call) (bytes_in call)).signals
-    → Such signals (with_one call) (bytes_in call) answer after)
+    → ((signals : Signals) (present : Bool) (telegram : List ℕ) (answer : Train.Answer) (after : Signals)
+    → noted_of answer ≡ (update_of signals present telegram).noted → after ≡ (update_of signals present telegram).signals → Such signals present telegram answer after)
     → OfUpdateLent Such
-update-lent-says Such plain M 𝓤 𝓛 mem run κs (held, (telegram, _)) ghost answer (after, _) =
-    let call = option_copied telegram in
-    let same = update_call held.now call in
-    fact_mono 𝓤 _ _ (λ p. plain held.now call answer after (p.0 ∙ ap (λ (u : Updating). u.noted) same) (p.1 ∙ ap (λ (u : Updating). u.signals) same))
+update-lent-says Such plain M 𝓤 𝓛 mem run κs (held, (present, (telegram, _))) ghost answer (after, _) =
+    fact_mono 𝓤 _ _ (λ p. plain held.now present telegram.now answer after p.0 p.1)

@@ -72,7 +72,7 @@ pub record TelegramsLent : Type 0 where
   -- M-1f, L-11, R-24: no other refusal changes the listener, nor any byte of its memory
   pub unchanged : OfHearIn (λ memory telegram answer after. (number : ℕ) → (number ≡ 15 → ⊥) → told_of answer ≡ refused_as number → after ≡ memory)
 
--- ---- and those from the train: `Signals::update(signals, telegram)`
+-- ---- and those from the train: `Signals::update(signals, present, telegram)`
 
 pub record TrainTelegrams : Type 0 where
   -- M-1b: there is one answer and one next record
@@ -86,7 +86,7 @@ pub record TrainTelegrams : Type 0 where
   -- M-1f, S-13, S-20, R-24: a refused one is a miss, and changes nothing else
   pub missed : OfUpdate (λ signals present telegram updated. (number : ℕ) → noted_of updated.answer ≡ refusal_under number → updated.signals ≡ missed_by signals)
 
--- S-01: the same where the record is: `signals_in_place::update(held, telegram)`
+-- S-01: the same where the record is: `signals_in_place::update(held, present, telegram)`
 pub record TrainTelegramsLent : Type 2 where
   pub defined : Asserted.OneAnswerLent update-lent.ended (λ M 𝓤 𝓛. update-lent.clauses 𝓛)
   pub refused : OfUpdateLent (λ signals present telegram answer after. present ≡ true → RefusedBy (train_rows telegram) refusal_under (noted_of answer))

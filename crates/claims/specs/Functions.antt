@@ -19,7 +19,7 @@
 -- The right sides need no reading for that. They pick, out of what the checker has of a function, what `Such` is about: `ended` is what
 -- the function is handed and what it gives, `Learnt` its contract, `κs` for how long each thing is lent, `lasts` the last values.
 use Rattle.telegram.specs.Telegrams.{Reading, reading_in}
-use Rattle.std.specs.Prelude.{ℕ, Bool, true, false, List, [], Option, None, Some, option_copied}
+use Rattle.std.specs.Prelude.{ℕ, Bool, List}
 use Rattle.kit.specs.Asserted as Asserted
 use Rattle.kit.specs.Contracts.{Promised}
 use Rattle.wire.specs.declared.distances.Distance.{Distance}
@@ -104,23 +104,12 @@ OfHearIn Such = Promised hear-in-contract.ended hear-in.Reads.Learnt (λ κs (me
 abbrev pub OfFreshSignals : (Signals → Type 0) → Type 0
 OfFreshSignals Such = Promised fresh-signals-contract.ended fresh-signals.Reads.Learnt (λ κs _ signals lasts. Such signals)
 
--- a call with a telegram, or with none: whether there is one, and its bytes
-abbrev pub with_one : Option (List ℕ) → Bool
-with_one None = false
-with_one (Some telegram) = true
-
-abbrev pub bytes_in : Option (List ℕ) → List ℕ
-bytes_in None = []
-bytes_in (Some telegram) = telegram
-
--- `Signals::update(signals, telegram)`
+-- `Signals::update(signals, present, telegram)`
 abbrev pub OfUpdate : (Signals → Bool → List ℕ → Updated → Type 0) → Type 0
-OfUpdate Such =
-    Promised update-contract.ended update.Reads.Learnt
-    (λ κs (signals, (telegram, _)) updated lasts. Such signals (with_one (option_copied telegram)) (bytes_in (option_copied telegram)) updated)
+OfUpdate Such = Promised update-contract.ended update.Reads.Learnt (λ κs (signals, (present, (telegram, _))) updated lasts. Such signals present telegram.now updated)
 
--- `signals_in_place::update(held, telegram)`: the record before, and after
+-- `signals_in_place::update(held, present, telegram)`: the record before, and after
 abbrev pub OfUpdateLent : (Signals → Bool → List ℕ → Train.Answer → Signals → Type 0) → Type 2
 OfUpdateLent Such =
     Asserted.PromisedLent update-lent.ended (λ M 𝓤 𝓛. update-lent.clauses 𝓛)
-    (λ κs (held, (telegram, _)) answer (after, _). Such held.now (with_one (option_copied telegram)) (bytes_in (option_copied telegram)) answer after)
+    (λ κs (held, (present, (telegram, _))) answer (after, _). Such held.now present telegram.now answer after)

@@ -6,8 +6,8 @@ use mathlib.Core.Logic.{◌⊎◌, inl, inr}
 use mathlib.Core.Bool.{cond}
 use mathlib.Core.List.{List, [], ◌∷◌, ◌++◌, append_assoc}
 use lib.Dec.{eqb, ltb}
-use lib.ListN.{length, drop, length-drop, length-append}
-use lib.Seq.{drop_at, drop-drop}
+use lib.ListN.{length, take, drop, length-take, length-drop, length-append}
+use lib.Seq.{take-add, take_all, drop_at, drop-drop}
 use native.Mathlib.Omega.{arith}
 use borrow.Author.Tests.{eqb-true, ltb-true, ltb-false}
 use Rattle.kit.specs.Put.{Poured}
@@ -190,3 +190,81 @@ module _ {lister : Lister} {piece : List ℕ} (first second : List ℕ) (m : Mad
       let all : length (bytes ++ first) ≡ 26 = omega (arith, length-append bytes first, kept.counted, kept.short, some, ltb-true (26 - lister.kept) (length piece) more) in
       inl (ap (λ (l : Lister). l.kept) same ∙ none_left kept first all))
       (λ less. inr (omega (arith, ap length both ∙ length-append first second, some, ltb-false (26 - lister.kept) (length piece) less))))
+
+-- ---- laws that docs/changes/CR-13.md names: the code's loops went, the laws hold as they did
+
+-- the bytes of a turn, after those of the turns before
+module _ (start : Lister) (piece : List ℕ) {from to : ℕ} (forth : from ≤ to) where
+  pub bytes-to : take to piece ≡ take from piece ++ take (to - from) (drop from piece)
+  bytes-to = let e : to ≡ from + (to - from) = omega arith in ap (λ (n : ℕ). take n piece) e ∙ take-add from (to - from) piece
+
+  pub again : {lister next : Lister} → lister ≡ take_of start (take from piece) → next ≡ take_of lister (take (to - from) (drop from piece)) → next ≡ take_of start (take to piece)
+  again same step =
+      step ∙ (ap (λ (s : Lister). take_of s (take (to - from) (drop from piece))) same
+      ∙ (sym (take-then start (take from piece) (take (to - from) (drop from piece))) ∙ ap (take_of start) (sym bytes-to)))
+
+  pub lines-to : {lister : Lister} → lister ≡ take_of start (take from piece)
+      → piece_lines start (take to piece) ≡ piece_lines start (take from piece) ++ piece_lines lister (take (to - from) (drop from piece))
+  lines-to same =
+      ap (piece_lines start) bytes-to
+      ∙ (lines-of-then start (take from piece) (take (to - from) (drop from piece))
+      ∙ ap (λ (s : Lister). piece_lines start (take from piece) ++ piece_lines s (take (to - from) (drop from piece))) (sym same))
+
+  pub lines-again : {lister : Lister} {l m n : List ℕ} {at i j : ℕ} → lister ≡ take_of start (take from piece) → Poured l at (piece_lines start (take from piece)) m i
+      → Poured m i (piece_lines lister (take (to - from) (drop from piece))) n j → Poured l at (piece_lines start (take to piece)) n j
+  lines-again same a b = poured_as (lines-to same) (poured-then a b)
+
+-- a piece cut at a place
+module _ (start : Lister) (piece : List ℕ) (cut : ℕ) where
+  abbrev first : List ℕ
+  first = take (cut - 0) piece
+
+  abbrev second : List ℕ
+  second = take (length piece - cut) (drop cut piece)
+
+  both : cut ≤ length piece → first ++ second ≡ piece
+  both p =
+      let e : cut - 0 ≡ cut = omega arith in
+      ap (λ (n : ℕ). take n piece ++ second) e
+      ∙ (sym (take-add cut (length piece - cut) piece) ∙ take_all (cut + (length piece - cut)) piece (omega arith))
+
+-- how many of its bytes are telegrams that lie whole in it
+module _ (lister : Lister) (piece : List ℕ) (m : MadeByPieces lister) (begun : (lister.kept ≡ 0) ⊎ (length piece ≡ 0)) where
+  abbrev whole : ℕ
+  whole = length piece / 26 * 26
+
+  whole_length : length (first lister piece whole) ≡ whole
+  whole_length = omega (arith, length-take (whole - 0) piece)
+
+  pub whole-begun : (lister.kept ≡ 0) ⊎ (length (first lister piece whole) ≡ 0)
+  whole-begun = go begun
+    where
+      go : (lister.kept ≡ 0) ⊎ (length piece ≡ 0) → (lister.kept ≡ 0) ⊎ (length (first lister piece whole) ≡ 0)
+      go (inl none) = inl none
+      go (inr empty) = inr (omega (arith, whole_length))
+
+  pub whole_even : length (first lister piece whole) ≡ length (first lister piece whole) / 26 * 26
+  whole_even = omega (arith, whole_length)
+
+  pub whole-left : {between : Lister} → between ≡ take_of lister (first lister piece whole) → between.kept + length (second lister piece whole) ≤ 26
+  whole-left {between} same = go begun
+    where
+      few : length (second lister piece whole) < 26
+      few = omega (arith, length-take (length piece - whole) (drop whole piece), length-drop whole piece)
+
+      go : (lister.kept ≡ 0) ⊎ (length piece ≡ 0) → between.kept + length (second lister piece whole) ≤ 26
+      go (inl none) =
+          let kept : between.kept ≡ 0 = ap (λ (l : Lister). l.kept) same ∙ none_after (none-begun m none) (first lister piece whole) whole_even in
+          omega (arith, kept, few)
+      go (inr empty) = let kept = lacks (here lister (first lister piece whole) m same) in omega (arith, kept, length-take (length piece - whole) (drop whole piece), length-drop whole piece)
+
+-- how many bytes the telegram in hand lacks
+module _ (lister : Lister) (piece : List ℕ) (m : MadeByPieces lister) (cut : ℕ) (lacking : cut ≡ cond (eqb lister.kept 0) 0 (min (26 - lister.kept) (length piece))) where
+  pub cut_inside : cut ≤ length piece
+  cut_inside =
+      on (eqb lister.kept 0)
+      (λ e. let none : cut ≡ 0 = lacking ∙ rw e refl in omega arith)
+      (λ e. let some : cut ≡ min (26 - lister.kept) (length piece) = lacking ∙ rw e refl in omega arith)
+
+  cut-length : length (first lister piece cut) ≡ cut
+  cut-length = omega (arith, length-take (cut - 0) piece, cut_inside)

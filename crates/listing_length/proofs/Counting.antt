@@ -1,10 +1,10 @@
 -- The bytes that were printed for the recording so far, piece by piece: every piece has room for all its lines, so that what was put is all that
 -- is printed.
-use Prim.Native.Nat.{ℕ, ◌+◌, ◌≤◌, min}
+use Prim.Native.Nat.{ℕ, ◌+◌, ◌-◌, ◌≤◌, min}
 use mathlib.Core.Path.{◌≡◌, refl, sym, ap, ◌∙◌, subst, subst⁻¹}
 use mathlib.Core.Logic.{◌↔◌}
 use mathlib.Core.List.{List, [], ◌∷◌, ◌++◌, append_assoc, append-nil}
-use lib.ListN.{length, length-append}
+use lib.ListN.{length, take, drop, length-take, length-append}
 use lib.Seq.{take_at, drop_at}
 use native.Mathlib.Omega.{arith}
 use Rattle.kit.specs.Bytes.{Bytes}
@@ -14,6 +14,7 @@ use Rattle.listing_lines.specs.Lines.{header_line}
 use Rattle.lister.specs.Pieces.{most_tables, begun_lister, take_of, piece_lines, MadeByPieces, made_begun, taken_piece}
 use Rattle.lister.specs.declared.Lister.{Lister}
 use Rattle.lister.proofs.Kept.{begun_kept, take_none, lines_none, take-then, lines-of-then}
+use Rattle.lister.proofs.Phases.{bytes-to, lines-to}
 use Rattle.listing.specs.Listings.{listing, end_of}
 use Rattle.listing.proofs.Whole.{in_one}
 use Rattle.listing_room.proofs.Lines.{header_long}
@@ -112,3 +113,33 @@ length-exact recording fits small = omega (arith, listing-short recording fits (
 pub whole-told : (recording : List ℕ) → Bytes recording → length recording ≤ 0x2000000000000000 → {before after : List ℕ} {put : ℕ} → Poured before 0 (listing recording) after put
     → (put ≡ listing_length recording) ↔ (length (listing recording) ≤ length before)
 whole-told recording fits small poured = (λ same. omega (arith, same, poured.past, length-exact recording fits small), λ room. omega (arith, room, poured.past, length-exact recording fits small))
+
+-- ---- laws that docs/PORT.md names: the code's loop went, the laws hold as they did
+
+module _ (recording : List ℕ) where
+  -- the bytes of the header and of the lines, so far
+  abbrev pub so_far : ℕ → ℕ
+  so_far from = bytes_so_far (take from recording)
+
+  pub header_counted : {bytes : ℕ} → bytes ≡ min (0 + length header_line) piece_lines_room → bytes ≡ so_far 0
+  header_counted put = omega (arith, put, header_long, ap length (lines_none begun_kept))
+
+  module _ (fits : Bytes recording) where
+    -- one piece more
+    pub piece_counted : {from to : ℕ} {lister : Lister} {bytes next room : ℕ} → from ≤ to → to - from ≤ piece_size → lister ≡ take_of begun_lister (take from recording) → bytes ≡ so_far from
+        → room ≡ piece_lines_room → next ≡ min (bytes + min (length (piece_lines lister (take (to - from) (drop from recording)))) room) most_length → next ≡ so_far to
+    piece_counted {from} {to} {lister} {bytes} {next} {room} forth small same before size sum =
+        let before_it = take from recording in
+        let piece = take (to - from) (drop from recording) in
+        let both : Bytes (before_it ++ piece) = subst Bytes (bytes-to begun_lister recording forth) (take-bytes to recording fits) in
+        let few : length piece ≤ piece_size = omega (arith, length-take (to - from) (drop from recording)) in
+        omega (
+          arith,
+          before,
+          sum,
+          size,
+          ap length (lines-to begun_lister recording forth same),
+          length-append (piece_lines begun_lister before_it) (piece_lines lister piece),
+          ap (λ (s : Lister). length (piece_lines s piece)) same,
+          piece_room_lem before_it piece both few,
+        )

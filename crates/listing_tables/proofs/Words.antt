@@ -55,3 +55,21 @@ pub numbers-then : (place : ℕ) (slot : Slot) (coded : Coded) → coded ≡ cod
     → entry_numbers place slot ≡ number_then place blank ++ (number_then slot.number blank ++ number_then coded.kind blank)
 unfolding entry_numbers
 numbers-then place slot coded e = ap (λ (c : Coded). number_then place blank ++ (number_then slot.number blank ++ number_then c.kind blank)) (sym e)
+
+-- ---- laws that docs/changes/CR-13.md names: the code's loops went, the laws hold as they did
+
+pub system_none : (change country voltage : ℕ) → change ≡ no_value → system_word change country voltage ++ (blank ∷ []) ≡ minus ∷ blank ∷ []
+unfolding system_word
+system_none change country voltage e = rw (eq-eqb change no_value e) refl
+
+pub system_some : (change country voltage : ℕ) → (change ≡ no_value → ⊥) → system_word change country voltage ++ (blank ∷ []) ≡ number_then voltage stroke ++ number_then country blank
+unfolding system_word
+system_some change country voltage other = rw (ne_eqb change no_value other) (simp append_assoc)
+
+pub limit_none : (change limit : ℕ) → change ≡ no_value → limit_word change limit ++ (blank ∷ []) ≡ minus ∷ blank ∷ []
+unfolding limit_word
+limit_none change limit e = rw (eq-eqb change no_value e) refl
+
+pub limit_some : (change limit : ℕ) → (change ≡ no_value → ⊥) → limit_word change limit ++ (blank ∷ []) ≡ number_then limit blank
+unfolding limit_word
+limit_some change limit other = rw (ne_eqb change no_value other) refl

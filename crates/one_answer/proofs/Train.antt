@@ -3,7 +3,7 @@ use mathlib.Core.Path.{refl, ap}
 use Rattle.kit.proofs.Cases.{given}
 use Rattle.kit.specs.Contracts.{OneAnswer}
 use Rattle.kit.specs.Asserted as Asserted
-use Rattle.kit.proofs.Contracts.{agree, agree-poured}
+use Rattle.kit.proofs.Contracts.{agree, agree-poured, both_facts}
 use Rattle.claims.proofs.Demand1.{demand1}
 use Rattle.train_codes.proofs as train-codes
 use Rattle.train_codes.specs.contracts as train-codes-contracts
@@ -51,6 +51,9 @@ signals-fresh κs handed answer other lasts others p q = (agree p q, refl)
 pub signals-update : OneAnswer signals-contracts.Signals.update.ended signals.Signals.update.Reads.Learnt
 signals-update κs handed answer other lasts others p q = (updating_apart answer other (agree p q), refl)
 
+pub signals-update_by : OneAnswer signals-contracts.Signals.update_by.ended signals.Signals.update_by.Reads.Learnt
+signals-update_by κs handed answer other lasts others p q = (updating_apart answer other (agree p q), refl)
+
 -- ---- signals_in_place
 
 pub signals_in_place-update : Asserted.OneAnswerLent signals-in-place-contracts.update.ended (λ M 𝓤 𝓛. signals-in-place-contracts.update.clauses 𝓛)
@@ -59,10 +62,22 @@ signals_in_place-update = demand1.train_lent.defined
 -- and so does what a caller learns of it, in plain facts
 pub signals_in_place-update_learnt : OneAnswer signals-in-place-contracts.update.ended signals-in-place.update.Reads.Learnt
 signals_in_place-update_learnt κs handed answer other lasts others p q =
+    (noted-apart answer other (agree p.0 q.0), ap (λ after. (after, (tt, (tt, tt)))) (agree p.1 q.1))
+
+-- the same of a call with a telegram or with none
+pub signals_in_place-update_by : Asserted.OneAnswerLent signals-in-place-contracts.update_by.ended (λ M 𝓤 𝓛. signals-in-place-contracts.update_by.clauses 𝓛)
+signals_in_place-update_by M 𝓤 𝓛 mem run κs handed ghost answer other lasts others =
+    both_facts 𝓤 _ _ _ (λ p q. (noted-apart answer other (agree p.0 q.0), ap (λ after. (after, (tt, tt))) (agree p.1 q.1)))
+
+pub signals_in_place-update_by_learnt : OneAnswer signals-in-place-contracts.update_by.ended signals-in-place.update_by.Reads.Learnt
+signals_in_place-update_by_learnt κs handed answer other lasts others p q =
     (noted-apart answer other (agree p.0 q.0), ap (λ after. (after, (tt, tt))) (agree p.1 q.1))
 
 pub signals_in_place-lend_and_update : OneAnswer signals-in-place-contracts.lend_and_update.ended signals-in-place.lend_and_update.Reads.Learnt
 signals_in_place-lend_and_update κs handed answer other lasts others p q = (updating_apart answer other (agree p q), refl)
+
+pub signals_in_place-lend_and_update_by : OneAnswer signals-in-place-contracts.lend_and_update_by.ended signals-in-place.lend_and_update_by.Reads.Learnt
+signals_in_place-lend_and_update_by κs handed answer other lasts others p q = (updating_apart answer other (agree p q), refl)
 
 -- ---- signals_output
 

@@ -13,7 +13,7 @@ use Rattle.text.proofs.Copies.{part_sets}
 use native.Mathlib.Nat.{add_comm, pow-suc, div-div-eq-div-mul}
 use native.Mathlib.Omega.{arith}
 use mir.Val.{bool_byte}
-use borrow.Author.Tests.{le-leb, lt-leb, leb-true, leb-false}
+use borrow.Author.Tests.{lt-ltb, le-ltb, le-leb, lt-leb, leb-true, leb-false}
 use Rattle.kit.proofs.Cases.{on}
 use Rattle.text.specs.Decimals.{digit, decimal}
 use Rattle.text.specs.Hexadecimals.{hex_digit, hexadecimal}
@@ -357,3 +357,32 @@ eight_hex n =
       fourth n,
     )
     refl
+
+-- ---- laws that docs/changes/CR-13.md names: the code's loops went, the laws hold as they did
+
+small-drop : (j : ℕ) {l : List ℕ} → Small l → Small (drop j l)
+small-drop zero s = s
+small-drop (suc j) none_small = none_small
+small-drop (suc j) (one_small p s) = small-drop j s
+
+-- flags, as the code counts them
+pub flag : (test : Bool) → bool_byte test ≡ cond test 1 0
+flag true = refl
+flag false = refl
+
+pub before_flags : (n : ℕ) → bool_byte (leb 10 n) + bool_byte (leb 100 n) + bool_byte (leb 1000 n) + bool_byte (leb 10000 n) ≡ digits_before n
+unfolding digits_before
+before_flags n = rw (flag (leb 10 n), flag (leb 100 n), flag (leb 1000 n), flag (leb 10000 n))
+
+pub hex_flag : (d : ℕ) → 48 + d + bool_byte (leb 10 d) * 39 ≡ hex_digit d
+hex_flag d =
+    on (leb 10 d)
+    (λ e. rw (e, le-ltb d 10 (leb-true 10 d e)) (omega (arith, leb-true 10 d e)))
+    (λ e. rw (e, lt-ltb d 10 (leb-false 10 d e)) (omega arith))
+
+-- the digits of the lowest byte of a number, and of a byte
+low-digits : (n : ℕ) → hex_pair (n % 256) ≡ hex_digit (n / 16 % 16) ∷ hex_digit (n % 16) ∷ []
+low-digits n = rw (high n, low n) refl
+
+all_digits : (n : ℕ) → n < 256 → hex_pair n ≡ hex_digit (n / 16 % 16) ∷ hex_digit (n % 16) ∷ []
+all_digits n p = let high : n / 16 ≡ n / 16 % 16 = omega arith in ap (λ d. hex_digit d ∷ hex_digit (n % 16) ∷ []) high

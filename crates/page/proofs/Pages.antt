@@ -1,7 +1,7 @@
 -- Laws of `Paged`: nothing, one run after another, a store of more bytes than are put, and a page that is copied into a buffer.
-use Prim.Native.Nat.{ℕ, ◌+◌, ◌≤◌, min}
+use Prim.Native.Nat.{ℕ, ◌+◌, ◌-◌, ◌≤◌, min}
 use mathlib.Core.Path.{◌≡◌, refl, sym, ap, ◌∙◌, subst}
-use mathlib.Core.Bool.{true, cond}
+use mathlib.Core.Bool.{true, false, cond}
 use lib.Dec.{leb}
 use borrow.Author.Tests.{leb-true, leb-false}
 use Rattle.kit.proofs.Cases.{on}
@@ -12,9 +12,9 @@ use lib.ListN.{length, get_or, take, drop, length-append}
 use lib.Seq.{sets, take_all, sets-eq, length-take-le, take-append-le, take-append-add}
 use native.Mathlib.Omega.{arith}
 use Rattle.kit.specs.Each.{each}
-use Rattle.kit.specs.Put.{Put}
+use Rattle.kit.specs.Put.{Put, Poured}
 use Rattle.kit.proofs.Each.{each_next}
-use Rattle.kit.proofs.Put.{put_then}
+use Rattle.kit.proofs.Put.{put_then, poured_as}
 use Rattle.page.specs.Pages.{Paged, Laid}
 use Rattle.page.specs.Packed.{low_bytes}
 use Rattle.page.specs.Words.{bytes_of_word}
@@ -129,3 +129,15 @@ laid_as {w} {x} {y} {l} {m} {i} {j} {a} {b} {s} {t} put stored le laid =
 
 pub agree_laid : {w x : ℕ} {l a s m n : List ℕ} {i j k : ℕ} → Laid w x l i a s m j → Laid w x l i a s n k → (j ≡ k) × (m ≡ n)
 agree_laid p q = (agree p.place q.place, agree p.exact q.exact)
+
+-- ---- laws that docs/changes/CR-13.md names: the code's loops went, the laws hold as they did
+
+pub laid_full : {w x : ℕ} {l : List ℕ} {i : ℕ} {a s : List ℕ} → leb (i + w) (length l) ≡ false → Laid w x l i a s l i
+laid_full {w} {x} {l} {i} e = record { exact = rw e refl; place = rw e refl; paged = λ room. absurd (omega (arith, leb-false (i + w) (length l) e)) }
+
+pub laid_room : {w x : ℕ} {l m : List ℕ} {i j : ℕ} {a s : List ℕ} → leb (i + w) (length l) ≡ true → m ≡ sets l i s → Paged x l i a m j → Laid w x l i a s m j
+laid_room e same put = record { exact = rw e same; place = rw e put.past; paged = λ room. put }
+
+-- a page filled from its start, copied into a buffer as far as it is filled, pours what was put on the page
+pub paged-poured : {x : ℕ} {p l m : List ℕ} {page : List ℕ} {next at j : ℕ} {bytes : List ℕ} → Paged x p 0 bytes page next → Poured l at (take (next - 0) page) m j → Poured l at bytes m j
+paged-poured {page = page} {next} put copied = let whole : next ≡ next - 0 = omega arith in poured_as (sym put.held ∙ ap (λ n. take n page) whole) copied

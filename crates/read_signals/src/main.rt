@@ -50,7 +50,7 @@ fn follow(source: &Source, begun: Progress) {
 fn take(system: System, signals: &mut Signals, telegram: Option<&[u8]>) -> bool
     ensures { signals.new ≡ (update_by signals.old (option_copied telegram.entry)).signals }
 {
-    let updated = signals_in_place::lend_and_update(*signals, telegram);
+    let updated = signals_in_place::lend_and_update_by(*signals, telegram);
     *signals = updated.signals;
     show_line(system, updated)
 }

@@ -18,7 +18,7 @@ fn tell(signals: Signals, announced: u16, bytes: &[u8], sheet: &mut Sheet<'_>) -
         × (sheet.new ≡ put_on (line_of (updated_by signals (announced, bytes.now))) sheet.old) }
 {
     let telegram = (announced != frames::NO_TELEGRAM).then_some(bytes);
-    let updated = signals_in_place::lend_and_update(signals, telegram);
+    let updated = signals_in_place::lend_and_update_by(signals, telegram);
     signals_output::put_line(updated, sheet);
     updated.signals
 }

@@ -3,7 +3,7 @@
 
 ghost use Rattle.std.specs.Prelude.{◌≡◌, option_copied};
 ghost use Rattle.signals.specs.Answers.{updating_of};
-ghost use Rattle.signals.specs.Signals.{fresh_signals, missed_by, update_by};
+ghost use Rattle.signals.specs.Signals.{fresh_signals, missed_by, update_of, update_by};
 
 use train_telegram::States;
 
@@ -65,7 +65,7 @@ impl Signals {
 
     // One call: with a telegram of any bytes and any length, or with none.
     #[tactic(auto, unfolding(crate::specs::Signals::update_of))]
-    pub fn update(self, telegram: Option<&[u8]>) -> Updated
+    pub fn update_by(self, telegram: Option<&[u8]>) -> Updated
         ensures { updating_of result ≡ update_by self (option_copied telegram.entry) }
     {
         let (answer, signals) = match telegram.map(train_telegram::read) {
@@ -74,5 +74,13 @@ impl Signals {
             Some(Ok(states)) => (Answer::Accepted, Signals { states, misses: 0 }),
         };
         Updated { answer, signals }
+    }
+
+    // The same for a host that says in a flag whether a telegram came. Where none is present the bytes are not looked at.
+    #[tactic(auto, unfolding(crate::specs::Signals::update_of))]
+    pub fn update(self, present: bool, telegram: &[u8]) -> Updated
+        ensures { updating_of result ≡ update_of self present telegram.now }
+    {
+        self.update_by(present.then_some(telegram))
     }
 }

@@ -1,9 +1,9 @@
 -- A telegram made of the bytes that were kept and those of a piece, and what is counted when it and those behind it are heard.
 use Prim.Native.Nat.{ℕ, ◌+◌, ◌-◌, ◌<◌, ◌≤◌}
 use mathlib.Core.Path.{◌≡◌, refl, sym, ap, ap₂, ◌∙◌}
-use mathlib.Core.List.{List, ◌∷◌, ◌++◌, append_assoc}
-use lib.ListN.{length, take, drop, length-append, take-append-drop}
-use lib.Seq.{length-take-le}
+use mathlib.Core.List.{List, ◌∷◌, ◌++◌, append_assoc, append-nil}
+use lib.ListN.{length, take, drop, length-append, length-take, length-drop, take-append-drop, drop_of_length-le}
+use lib.Seq.{sets, sets-eq, length-take-le, drop-drop}
 use native.Mathlib.Omega.{arith}
 use Rattle.kit.specs.Put.{Poured}
 use Rattle.listener.specs.declared.Listener.{Listener}
@@ -79,3 +79,35 @@ module _ {lister : Lister} (m : MadeByPieces lister) where
       ap (λ (l : List ℕ). kept-bytes ++ l) cut ∙ (sym (append_assoc kept-bytes end rest) ∙ ap (λ (l : List ℕ). l ++ rest) (sym is)) in
       count_turn tally listener telegram rest whole (ap length is ∙ long) counts means
       ∙ (ap (λ (l : Listener). to_count tally l (kept-bytes ++ piece)) same ∙ sym (all-counted tally piece))
+
+-- ---- laws that docs/PORT.md names: the code's loop went, the laws hold as they did
+
+-- the bytes that are still to be heard: the first of a telegram's room, and a piece from a place on
+abbrev waiting : List ℕ → ℕ → List ℕ → ℕ → List ℕ
+waiting telegram kept piece from = take kept telegram ++ drop from piece
+
+module _ (telegram piece : List ℕ) (kept from : ℕ) (wide : length telegram ≡ 26) (few : kept < 26) where
+  front_long : length (take kept telegram) ≡ kept
+  front_long = length-take-le kept telegram (omega arith)
+
+  -- `count_turn`, where a telegram's room is filled from the piece
+  pub waiting_turn : (tally next : Tally) (listener then : Listener) {after : List ℕ} {past : ℕ} → from + (26 - kept) ≤ length piece
+      → Poured telegram kept (take (from + (26 - kept) - from) (drop from piece)) after past → next ≡ counted tally (heard_by listener after).told
+      → then ≡ (heard_by listener after).listener → to_count tally listener (waiting telegram kept piece from) ≡ to_count next then (waiting after 0 piece (from + (26 - kept)))
+  waiting_turn tally next listener then {after} room poured counts means =
+      let front = take kept telegram in
+      let part = take (26 - kept) (drop from piece) in
+      let size : from + (26 - kept) - from ≡ 26 - kept = omega arith in
+      let long : length part ≡ 26 - kept = omega (arith, length-take (26 - kept) (drop from piece), length-drop from piece) in
+      let filled : after ≡ front ++ part =
+      poured.stored
+      ∙ (ap (λ (n : ℕ). sets telegram kept (take n (drop from piece))) size
+      ∙ (sets-eq part telegram kept (omega (arith, long))
+      ∙ (ap (λ (l : List ℕ). (front ++ part) ++ l) (drop_of_length-le telegram {i = kept + length part} (omega (arith, long))) ∙ append-nil (front ++ part)))) in
+      let left : drop from piece ≡ part ++ drop (from + (26 - kept)) piece =
+      sym (ap (λ (l : List ℕ). part ++ l) (sym (drop-drop (26 - kept) from piece)) ∙ take-append-drop (26 - kept) (drop from piece)) in
+      let cut : waiting telegram kept piece from ≡ after ++ drop (from + (26 - kept)) piece =
+      ap (λ (l : List ℕ). front ++ l) left
+      ∙ (sym (append_assoc front part (drop (from + (26 - kept)) piece)) ∙ ap (λ (l : List ℕ). l ++ drop (from + (26 - kept)) piece) (sym filled)) in
+      let whole : length after ≡ 26 = ap length filled ∙ omega (arith, length-append front part, front_long, long) in
+      sym (count_turn tally listener after (drop (from + (26 - kept)) piece) cut whole counts means)

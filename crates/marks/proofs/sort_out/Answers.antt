@@ -6,7 +6,7 @@ use mir.Val.{bool_byte}
 use Rattle.condition.specs.Slots.{slot_count}
 use Rattle.memory.specs.Memory.{is_set}
 use Rattle.marks.specs.Lent.{Sorted}
-use Rattle.marks.proofs.Heads.{heads_alike}
+use Rattle.marks.proofs.Heads.{slots_alike}
 use Rattle.marks.proofs.Sorting.{sorted_none, sorted_more}
 use borrow.Author.Rules.{rules}
 use Rattle.marks.proofs.sort_out.Goals as goal
@@ -24,7 +24,7 @@ loop-i-preserved c =
     let l = c.loop-i in
     let memory = c.args.memory.now in
     sorted_more memory l.i l.count l.others l.marks c.loop-i-test.true l.invariant _ _ _ _ _
-    (heads_alike memory l.i _ _ c.head_at-head.ensures c.head_at-before.ensures)
+    (slots_alike memory l.i _ _ c.head_at-head.ensures c.head_at-before.ensures)
     (ap is_set c.head_at-head.ensures.1) refl (c.from-count.ensures ∙ flag_counted _) refl
 
 pub returns : goal.returns
