@@ -7,8 +7,7 @@ use borrow.Author.Tests.{leb-true, leb-false}
 use Rattle.kit.proofs.Cases.{on}
 use Rattle.kit.proofs.Contracts.{agree}
 use mathlib.Core.List.{List, [], ◌++◌, append-nil, append_assoc}
-use Rattle.std.specs.Int.{w32, to_be_bytes}
-use lib.ListN.{length, get_or, take, drop, length-append}
+use lib.ListN.{length, take, drop, length-append}
 use lib.Seq.{sets, take_all, sets-eq, length-take-le, take-append-le, take-append-add}
 use native.Mathlib.Omega.{arith}
 use Rattle.kit.specs.Each.{each}
@@ -21,7 +20,7 @@ use Rattle.page.specs.Words.{bytes_of_word}
 use Rattle.page.specs.declared.Word.{Word}
 use Rattle.text.specs.Hexadecimals.{hexadecimal}
 use Rattle.text.proofs.Numerals.{hexadecimal-long}
-use Rattle.page.proofs.Packed.{low-length, low-take, hex_pair, eight_hex}
+use Rattle.page.proofs.Packed.{low-length, low-take}
 
 pub paged-none : {l : List ℕ} {i : ℕ} → Paged 0 l i [] l i
 paged-none {l} {i} = record { held = sym (append-nil (take i l)); past = omega arith; within = omega arith }
