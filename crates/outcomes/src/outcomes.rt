@@ -20,7 +20,8 @@ pub struct Moved {
     pub state: State,
 }
 
-// What follows a read that moved so many bytes.
+// What follows a read that moved so many bytes. Flags and no Result, here and below: that would leave out calls that moved some and failed,
+// and of those, too, it is promised what follows.
 pub fn read_of(count: usize, failed: bool, interrupted: bool) -> State
     ensures { result ≡ after_read count failed interrupted }
 {
