@@ -10,7 +10,9 @@ use lib.ListN.{length, take, drop, length-take, length-drop, length-append}
 use lib.Seq.{take-add, take_all, drop_at, drop-drop}
 use native.Mathlib.Omega.{arith}
 use borrow.Author.Tests.{eqb-true, ltb-true, ltb-false}
+use Rattle.kit.specs.Put.{Poured}
 use Rattle.kit.proofs.Cases.{on}
+use Rattle.kit.proofs.Put.{poured_as, poured-then}
 use Rattle.text.specs.Putting.{put_on}
 use Rattle.text.specs.declared.sheets.Sheet.{Sheet}
 use Rattle.text.proofs.Putting.{put_next}

@@ -9,7 +9,7 @@ use Rattle.text.proofs as text
 use Rattle.text.specs.contracts as text-contracts
 use Rattle.page.proofs as page
 use Rattle.page.specs.contracts as page-contracts
-use Rattle.page.proofs.Pages.{agree_laid}
+use Rattle.page.proofs.Sheets.{agree_laid_on}
 use Rattle.frames.proofs as frames
 use Rattle.frames.specs.contracts as frames-contracts
 
@@ -52,28 +52,28 @@ text-put_decimal κs handed answer other lasts others p q = (refl, ap (λ s. (s,
 -- ---- page
 
 pub page-put_byte_if : OneAnswer page-contracts.put_byte_if.ended page.put_byte_if.Reads.Learnt
-page-put_byte_if κs handed answer other lasts others p q = given (agree_laid p q) (λ (place, bytes). (place, ap (λ b. (b, (tt, (tt, (tt, tt))))) bytes))
+page-put_byte_if κs handed answer other lasts others p q = (refl, ap (λ s. (tt, (tt, (s, tt)))) (agree_laid_on p q))
 
 pub page-put_byte : OneAnswer page-contracts.put_byte.ended page.put_byte.Reads.Learnt
-page-put_byte κs handed answer other lasts others p q = given (agree_laid p q) (λ (place, bytes). (place, ap (λ b. (b, (tt, (tt, tt)))) bytes))
+page-put_byte κs handed answer other lasts others p q = (refl, ap (λ s. (tt, (s, tt))) (agree_laid_on p q))
 
 pub page-put_number : OneAnswer page-contracts.put_number.ended page.put_number.Reads.Learnt
-page-put_number κs handed answer other lasts others p q = given (agree_laid p q) (λ (place, bytes). (place, ap (λ b. (b, (tt, (tt, (tt, tt))))) bytes))
+page-put_number κs handed answer other lasts others p q = (refl, ap (λ s. (tt, (tt, (s, tt)))) (agree_laid_on p q))
 
 pub page-put_short_number : OneAnswer page-contracts.put_short_number.ended page.put_short_number.Reads.Learnt
-page-put_short_number κs handed answer other lasts others p q = given (agree_laid p q) (λ (place, bytes). (place, ap (λ b. (b, (tt, (tt, (tt, tt))))) bytes))
+page-put_short_number κs handed answer other lasts others p q = (refl, ap (λ s. (tt, (tt, (s, tt)))) (agree_laid_on p q))
 
 pub page-put_bare_number : OneAnswer page-contracts.put_bare_number.ended page.put_bare_number.Reads.Learnt
-page-put_bare_number κs handed answer other lasts others p q = given (agree_laid p q) (λ (place, bytes). (place, ap (λ b. (b, (tt, (tt, tt)))) bytes))
+page-put_bare_number κs handed answer other lasts others p q = (refl, ap (λ s. (tt, (s, tt))) (agree_laid_on p q))
 
 pub page-put_short_text : OneAnswer page-contracts.put_short_text.ended page.put_short_text.Reads.Learnt
-page-put_short_text κs handed answer other lasts others p q = given (agree_laid p q) (λ (place, bytes). (place, ap (λ b. (b, (tt, (tt, tt)))) bytes))
+page-put_short_text κs handed answer other lasts others p q = (refl, ap (λ s. (tt, (s, tt))) (agree_laid_on p q))
 
 pub page-put_word : OneAnswer page-contracts.put_word.ended page.put_word.Reads.Learnt
-page-put_word κs handed answer other lasts others p q = given (agree_laid p q) (λ (place, bytes). (place, ap (λ b. (b, (tt, (tt, tt)))) bytes))
+page-put_word κs handed answer other lasts others p q = (refl, ap (λ s. (tt, (s, tt))) (agree_laid_on p q))
 
 pub page-put_hexadecimal : OneAnswer page-contracts.put_hexadecimal.ended page.put_hexadecimal.Reads.Learnt
-page-put_hexadecimal κs handed answer other lasts others p q = given (agree_laid p q) (λ (place, bytes). (place, ap (λ b. (b, (tt, (tt, tt)))) bytes))
+page-put_hexadecimal κs handed answer other lasts others p q = (refl, ap (λ s. (tt, (s, tt))) (agree_laid_on p q))
 
 pub page-word_of : OneAnswer page-contracts.word_of.ended page.word_of.Reads.Learnt
 page-word_of κs handed answer other lasts others p q = (agree p q, refl)
