@@ -53,6 +53,7 @@ fn take(system: System, signals: &mut Signals, telegram: Option<&[u8]>) -> Resul
     show_line(system, updated)
 }
 
+#[tactic(auto, unfolding(text::specs::Putting::put_on))]
 fn show_line(system: System, updated: Updated) -> Result<(), Stopped> {
     let mut line = [0u8; 256];
     let mut sheet = Sheet::on(&mut line, 0);
