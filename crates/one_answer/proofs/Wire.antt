@@ -1,8 +1,7 @@
 -- One answer of bytes, steps and distances, and of text and calls that stand one after another: each contract admits one (C-04).
 use mathlib.Core.Path.{◌≡◌, refl, ap, ap₂}
-use Rattle.kit.proofs.Cases.{given}
 use Rattle.kit.specs.Contracts.{OneAnswer}
-use Rattle.kit.proofs.Contracts.{agree, agree-poured}
+use Rattle.kit.proofs.Contracts.{agree}
 use Rattle.wire.proofs as wire
 use Rattle.wire.specs.contracts as wire-contracts
 use Rattle.text.proofs as text
