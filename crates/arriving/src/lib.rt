@@ -1,17 +1,18 @@
 // New orders arrive, in list order: each takes the lowest free slot and the first permitted number after the last one given. The list
-// is looked at as far as its first n orders; a desk hands in how many it has. Where no slot is free the places stay as they are: of a
-// desk that was made and a list that it accepts, every new order finds one (desk/proofs/Seating.antt).
+// is looked at as far as its first n orders; a desk hands in how many it has. It is no slice of n orders, since n may pass its end. Where
+// no slot is free the places stay as they are: of a desk that was made and a list that it accepts, every new order finds one
+// (desk/proofs/Seating.antt).
 #![tactic(auto)]
 
 ghost use Rattle.std.specs.Prelude.{◌≡◌, false};
 ghost use Rattle.places.specs.Places.{is_live};
-ghost use Rattle.resting.specs.Rests.{is_resting};
+ghost use Rattle.resting.specs.Rests.{rests_in};
 ghost use Rattle.arriving.specs.Arriving.{seated, seated_all};
 
 use condition::Slot;
 use order_list::Order;
 use places::Place;
-use resting::Ended;
+use resting::AtRest;
 
 // What changes while orders arrive.
 #[derive(Clone, Copy)]
@@ -21,12 +22,12 @@ pub struct Seats {
 }
 
 // A new order of the list placed. The number that it is given is the last one given from then on.
-fn seat(seats: Seats, ended: [Ended; 160], rest: u16, step: u16, order: Order) -> Seats
+fn seat(seats: Seats, at_rest: AtRest, order: Order) -> Seats
     requires { is_live seats.places order.number ≡ false }
-    ensures { result ≡ seated (is_resting rest step ended) order seats }
+    ensures { result ≡ seated (rests_in at_rest) order seats }
 {
     let mut places = seats.places;
-    let last = numbers::next_number(places, ended, seats.last, rest, step);
+    let last = numbers::next_number(places, seats.last, at_rest);
     if let Some(at) = places::place_of(places, 0) {
         places[at] = Place {
             order: order.number,
@@ -41,23 +42,15 @@ fn seat(seats: Seats, ended: [Ended; 160], rest: u16, step: u16, order: Order) -
 
 // All of the first n orders of the list placed that are new. The orders of the places are at hand, so that one which is live is passed
 // over at once.
-pub fn seat_all(
-    kept: [Place; 20],
-    last: u8,
-    ended: [Ended; 160],
-    rest: u16,
-    step: u16,
-    list: &[u8],
-    n: u8,
-) -> Seats
-    ensures { result ≡ seated_all (is_resting rest step ended) list.now (record { places = kept; last = last }) n }
+pub fn seat_all(first: Seats, at_rest: AtRest, list: &[u8], n: u8) -> Seats
+    ensures { result ≡ seated_all (rests_in at_rest) list.now first n }
 {
-    let mut seats = Seats { places: kept, last };
-    let mut live = places::orders_of(kept);
+    let mut seats = first;
+    let mut live = places::orders_of(first.places);
     for j in 0..n {
         let order = order_list::order_at(list, j);
         if order_list::found_at(&live, order.number).is_none() {
-            seats = seat(seats, ended, rest, step, order);
+            seats = seat(seats, at_rest, order);
             live = places::orders_of(seats.places);
         }
     }

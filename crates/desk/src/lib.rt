@@ -8,7 +8,7 @@ ghost use Rattle.desk.specs.Desks.{base_rest, fresh_desk, answer_in, accept_of, 
 use arriving::Seats;
 use leaving::Remains;
 use places::Place;
-use resting::Ended;
+use resting::{AtRest, Ended};
 use wire::Refusal;
 
 // The ended numbers stand by the step in which they ended, the newest first, and within a step by slot. Its arrays are of a fixed size, since
@@ -68,15 +68,16 @@ impl Desk {
             places: kept,
             ended,
         } = leaving::leave(list, n, step, self.places, self.ended);
-        let Seats { places, last } = arriving::seat_all(
-            kept,
-            self.last,
+        let first = Seats {
+            places: kept,
+            last: self.last,
+        };
+        let at_rest = AtRest {
             ended,
-            Desk::REST,
+            rest: Desk::REST,
             step,
-            list,
-            n,
-        );
+        };
+        let Seats { places, last } = arriving::seat_all(first, at_rest, list, n);
         Answer {
             verdict: Ok(()),
             desk: Desk {

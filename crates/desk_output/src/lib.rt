@@ -31,15 +31,20 @@ pub fn put_table(desk: Desk, out: &mut [u8], at: usize) -> usize
     ensures { Poured out.old at (five_telegrams desk) out.new result }
 {
     let table = desk_writer::table_of(desk);
-    let step = desk.step;
-    let fourth = put_packet(step, 3, telegram::four_of(table, 3), out, at);
-    let fifth = put_packet(step, 4, telegram::four_of(table, 4), out, fourth);
-    let sixth = put_packet(step, 5, telegram::four_of(table, 5), out, fifth);
-    let seventh = put_packet(step, 6, telegram::four_of(table, 6), out, sixth);
-    put_packet(step, 7, telegram::four_of(table, 7), out, seventh)
+    let mut next = at.min(out.len());
+    for packet in 3..=7 {
+        next = put_packet(
+            desk.step,
+            packet,
+            telegram::four_of(table, packet),
+            out,
+            next,
+        );
+    }
+    next
 }
 
-// `refused N at list I` and a line feed.
+// `refused N at list I` and a line feed. It takes every number: a `Refusal` would ask more of a caller.
 #[tactic(auto, unfolding(crate::specs::Outputs::refused_list_line))]
 pub fn put_refused(number: u8, list: u64, line: &mut [u8], at: usize) -> usize
     ensures { Poured line.old at (refused_list_line number list) line.new result }
@@ -51,10 +56,12 @@ pub fn put_refused(number: u8, list: u64, line: &mut [u8], at: usize) -> usize
     text::put_byte(line, fourth, text::LINE_FEED)
 }
 
-// `short list` and a line feed.
+// What is said where the input ends inside a list.
+pub const SHORT_LIST: &[u8] = b"short list\n";
+
 #[tactic(auto, unfolding(crate::specs::Outputs::short_list_line))]
 pub fn put_short(line: &mut [u8], at: usize) -> usize
     ensures { Poured line.old at short_list_line line.new result }
 {
-    text::put_words(line, at, b"short list\n")
+    text::put_words(line, at, SHORT_LIST)
 }

@@ -8,6 +8,7 @@ ghost use Rattle.desk.specs.Desks.{base_rest, accept_of, Made};
 ghost use Rattle.desk_runs.specs.Runs.{table_for, line_for, run_tables, refused_lines, desk_at_end};
 
 use desk::{Answer, Desk};
+use frames::Calls;
 
 // How many bytes were put into each of the two buffers. They stand beside the buffers, since those are lent from C.
 #[derive(Clone, Copy)]
@@ -23,7 +24,8 @@ struct Taken {
     ran: Ran,
 }
 
-// One list more: the table after it, or the line that it is refused.
+// One list more: the table after it, or the line that it is refused. That the desk was made is asked for, and is no invariant of `Desk`:
+// `desk_writer::write` takes any desk.
 fn take(before: Taken, list: &[u8], lists: u64, tables: &mut [u8], lines: &mut [u8]) -> Taken
     requires { Made before.desk × (before.ran.tables ≤ length tables.old) × (before.ran.lines ≤ length lines.old) }
     ensures { (result.desk ≡ (accept_of base_rest before.desk list.now).desk)
@@ -58,7 +60,6 @@ fn take(before: Taken, list: &[u8], lists: u64, tables: &mut [u8], lines: &mut [
 
 // Hands all lists to a fresh desk: the table after each that is accepted, and a line for each that is refused and where the input ends
 // inside a list. What has no room before a buffer's end is dropped. The desk is the one that the lists leave.
-#[tactic(auto, using(frames::proofs::Splitting::call_bounds))]
 fn hand_over(input: &[u8], tables: &mut [u8], lines: &mut [u8]) -> Taken
     ensures { (result.desk ≡ desk_at_end input.now)
         × Poured tables.old 0 (run_tables input.now) tables.new result.ran.tables
@@ -72,16 +73,17 @@ fn hand_over(input: &[u8], tables: &mut [u8], lines: &mut [u8]) -> Taken
         },
     };
     let mut lists: u64 = 0;
-    // No iterator gives the lists: each says its own length, and the input may end inside one.
-    let mut rest = input;
-    while !rest.is_empty() {
-        let Some(size) = frames::call_size(rest, None) else {
+    let calls = Calls {
+        rest: input,
+        bare: None,
+    };
+    for list in calls {
+        let Ok(list) = list else {
             taken.ran.lines = desk_output::put_short(lines, taken.ran.lines);
             return taken;
         };
         lists += 1;
-        taken = take(taken, &rest[frames::LENGTH..size], lists, tables, lines);
-        rest = &rest[size..];
+        taken = take(taken, list.bytes, lists, tables, lines);
     }
     taken
 }

@@ -12,7 +12,7 @@ use std::array;
 use telegram::Telegram;
 use wire::Refusal;
 
-// The twenty slots.
+// The twenty slots. By `from_fn`, as `places::orders_of`, with whose `map` a desk took half as long again for a list.
 pub fn table_of(desk: Desk) -> [Slot; 20]
     ensures { result ≡ table_of desk }
 {

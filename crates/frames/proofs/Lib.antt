@@ -1,3 +1,4 @@
 pub mod Back
+pub mod Given
 pub mod Pouring
 pub mod Splitting

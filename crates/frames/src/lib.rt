@@ -1,8 +1,12 @@
 // Calls one after another, each a length in two bytes, high first, and so many bytes. One length may be bare: nothing follows it.
 #![tactic(auto)]
 
+mod calls;
+
 ghost use Rattle.std.specs.Prelude.{◌≡◌};
 ghost use Rattle.frames.specs.Frames.{bare_in, follows, size_given, whole_size};
+
+pub use calls::{Calls, Short, WholeCall};
 
 // How many bytes a length takes.
 pub const LENGTH: usize = 2;

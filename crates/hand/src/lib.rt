@@ -4,7 +4,6 @@
 ghost use Rattle.std.specs.Prelude.{◌≡◌, map, ◌-◌, ◌≤◌};
 ghost use Rattle.std.proofs.lemmas.List.Edits.{sets};
 ghost use Rattle.telegram.specs.Tables.{packets, first_packet};
-ghost use Rattle.telegram.specs.Telegrams.{packet_in};
 ghost use Rattle.memory.specs.Memory.{step_from, held_from, flags_at};
 ghost use Rattle.hand.specs.Sets.{is_held, is_whole};
 ghost use Rattle.hand.specs.Lent.{hand_in, hand_bytes, begun_in, four_in, joined_in};
@@ -13,7 +12,6 @@ use condition::Slot;
 use memory::SET;
 use std::array::from_fn;
 use telegram::FIRST_PACKET;
-use wire::STEPS;
 
 // How many packets carry a table.
 const PACKETS: usize = 5;
@@ -63,13 +61,6 @@ pub fn is_held(memory: &[u8; 310], packet: u8) -> bool
     k < PACKETS && memory[HELD + k] != 0
 }
 
-// The packet number of a telegram, 0 to 7.
-pub fn packet_in(telegram: &[u8]) -> u8
-    ensures { (result ≡ packet_in telegram.now) × (result ≤ 7) }
-{
-    (wire::word_at(telegram, 0) / STEPS) as u8
-}
-
 // The four slots of a telegram from slot i of the set on. The test is never met; by it the compiler knows that each of the four has a place.
 fn put_four(memory: &mut [u8; 310], i: usize, telegram: &[u8])
     requires { i ≤ 16 }
@@ -87,7 +78,7 @@ fn put_four(memory: &mut [u8; 310], i: usize, telegram: &[u8])
 pub fn join(memory: &mut [u8; 310], telegram: &[u8])
     ensures { memory.new ≡ joined_in memory.old telegram.now }
 {
-    let packet = packet_in(telegram);
+    let packet = telegram::packet_in(telegram);
     memory[HELD + place_of(packet)] = 1;
     put_four(memory, telegram::first_slot(packet), telegram)
 }
@@ -99,7 +90,7 @@ pub fn is_whole(memory: &[u8; 310]) -> bool
     memory[HELD..SET].iter().all(|byte| *byte != 0)
 }
 
-// Which of the five packets are held.
+// Which of the five packets are held. By `from_fn`, as `memory::marks_in`.
 fn held_in(memory: &[u8; 310]) -> [bool; 5]
     ensures { result ≡ flags_at memory.now held_from packets }
 {

@@ -5,22 +5,27 @@
 ghost use Rattle.kit.specs.Put.{Poured};
 ghost use Rattle.hearing_runs.specs.Runs.{lines_heard};
 
+use frames::Calls;
+use text::Sheet;
+
 // The lines of all telegrams, heard by a fresh listener, and `short telegram` where the input ends inside one; the answer is the place
 // past them. What has no room before the buffer's end is dropped.
-#[tactic(auto, using(frames::proofs::Splitting::call_bounds))]
 pub fn hear(input: &[u8], lines: &mut [u8]) -> usize
     ensures { Poured lines.old 0 (lines_heard input.now) lines.new result }
 {
+    let mut sheet = Sheet::on(lines, 0);
     let mut memory = [0u8; 310];
-    let mut rest = input;
-    let mut at: usize = 0;
-    while !rest.is_empty() {
-        let Some(size) = frames::call_size(rest, None) else {
-            return text::put_words(lines, at, b"short telegram\n");
+    let telegrams = Calls {
+        rest: input,
+        bare: None,
+    };
+    for telegram in telegrams {
+        let Ok(telegram) = telegram else {
+            sheet.put_words(b"short telegram\n");
+            return sheet.at;
         };
-        let answer = listener::hear_in(&mut memory, &rest[frames::LENGTH..size]);
-        at = listing_tables::put_heard(answer, &memory, lines, at);
-        rest = &rest[size..];
+        let answer = listener::hear_in(&mut memory, telegram.bytes);
+        listing_tables::put_heard(answer, &memory, &mut sheet);
     }
-    at
+    sheet.at
 }

@@ -9,5 +9,6 @@ pub mod Ladder
 pub mod Loops
 pub mod Maps
 pub mod Member
+pub mod Parts
 pub mod Put
 pub mod Stores

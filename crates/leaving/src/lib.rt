@@ -1,5 +1,5 @@
 // Orders that are absent from a list leave: their slots are free in the same step, and their numbers begin to rest. The list is
-// looked at as far as its first n orders; a desk hands in how many it has.
+// looked at as far as its first n orders; a desk hands in how many it has. It is no slice of n orders, since n may pass its end.
 #![tactic(auto)]
 
 ghost use Rattle.std.specs.Prelude.{map, ◌≡◌};

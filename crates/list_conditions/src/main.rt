@@ -15,18 +15,20 @@ ghost use Rattle.summary.specs.Tallies.{counted_piece};
 ghost use Rattle.summary.specs.Summaries.{summary_of};
 ghost use Rattle.listing_room.specs.Rooms.{piece_room, lines_room, header_room, end_room};
 
-use lister::{Listed, Lister};
+use lister::Lister;
 use outcomes::{Progress, State};
 use program::{Asked, Program};
-use streams::{Output, Source, System};
+use streams::{Output, Source, Stopped, System};
 use summary::Tally;
+use text::Sheet;
 
 fn main(rt: HostRuntime) {
     let system = System {
         rt: &rt,
         program: Program::ListConditions,
     };
-    system.run(|asked, source, progress| list(begun_tally(asked), source, progress));
+    // what stopped it was told
+    system.run(|asked, source, progress| list(begun_tally(asked), source, progress).unwrap_or(()));
 }
 
 // What is counted from, where a summary is asked for.
@@ -38,13 +40,11 @@ fn begun_tally(asked: Asked) -> Option<Tally>
 }
 
 // Lists the input to its end, or to the first read or write that fails. What it had is counted only where a summary is asked for.
-fn list(counted: Option<Tally>, source: &Source, begun: Progress)
+fn list(counted: Option<Tally>, source: &Source, begun: Progress) -> Result<(), Stopped>
     requires { IfSome counted Countable }
 {
     let system = source.system;
-    if !show_header(system) {
-        return;
-    }
+    show_header(system)?;
     let mut lister = Lister::begun();
     let mut tally = counted;
     let mut progress = begun;
@@ -57,24 +57,23 @@ fn list(counted: Option<Tally>, source: &Source, begun: Progress)
         match outcome {
             Ok(n) => {
                 tally = count_piece(tally, lister, &piece[..n]);
-                if !show_piece(system, &mut lister, &piece[..n], &mut out) {
-                    return;
-                }
+                show_piece(system, &mut lister, &piece[..n], &mut out)?;
             }
             Err(state) => {
                 system.end_progress(progress);
-                if show_end(system, state, lister)
-                    && let Some(tally) = tally
-                {
-                    show_summary(system, state, tally, lister);
-                }
-                return;
+                show_end(system, state, lister)?;
+                return match tally {
+                    Some(tally) => show_summary(system, state, tally, lister),
+                    None => Ok(()),
+                };
             }
         }
     }
+    Ok(())
 }
 
-// Counts what a piece brings, where that is asked for.
+// Counts what a piece brings, where that is asked for. That the lister was made is asked for here and below, and kept by no ghost field
+// of a type round it: of such a fact there is one proof at most, and a lister may come of pieces in many ways.
 fn count_piece(tally: Option<Tally>, lister: Lister, piece: &[u8]) -> Option<Tally>
     requires { MadeByPieces lister }
     ensures { result ≡ option_map (λ tally. counted_piece tally lister piece.now) tally }
@@ -82,38 +81,47 @@ fn count_piece(tally: Option<Tally>, lister: Lister, piece: &[u8]) -> Option<Tal
     tally.map(|tally| tally.take(lister, piece))
 }
 
-// Puts the header, all of it: the buffer has the size for which that is proved (listing_room/specs/Rooms.antt). That the sizes are asked for
-// here and below, and stand in no array type, has each number in one place, there.
+// Puts the header, all of it: the buffer has the size for which that is proved (listing_room/specs/Rooms.antt). Here and below a slice of
+// that size is asked for, and no array type has it: each number stands in one place, there, and it is the contract that refuses another
+// size.
 fn put_header(out: &mut [u8]) -> usize
     requires { length out.old ≡ header_room }
     ensures { Put out.old 0 header_line out.new result }
 {
-    listing_lines::put_header(out, 0)
+    let mut sheet = Sheet::on(out, 0);
+    listing_lines::put_header(&mut sheet);
+    sheet.at
 }
 
-// Writes the header, and answers whether it was written.
-fn show_header(system: System) -> bool {
+// Writes the header.
+fn show_header(system: System) -> Result<(), Stopped> {
     let mut out = [0u8; 16];
     let n = put_header(&mut out);
     system.write(Output::Standard, &out[..n])
 }
 
 // Puts the lines of one piece. It asks for the sizes for which it is proved that all of them have room (listing_room/proofs/Room.antt).
-fn put_piece(lister: Lister, piece: &[u8], out: &mut [u8]) -> Listed
-    requires { MadeByPieces lister × (length piece.now ≤ piece_room) × (length out.old ≡ lines_room) }
-    ensures { (result.lister ≡ take_of lister piece.now) × Poured out.old 0 (piece_lines lister piece.now) out.new result.at }
+fn put_piece(lister: &mut Lister, piece: &[u8], out: &mut [u8]) -> usize
+    requires { MadeByPieces lister.old × (length piece.now ≤ piece_room) × (length out.old ≡ lines_room) }
+    ensures { (lister.new ≡ take_of lister.old piece.now) × Poured out.old 0 (piece_lines lister.old piece.now) out.new result }
 {
-    lister.take(piece, out, 0)
+    let mut sheet = Sheet::on(out, 0);
+    *lister = lister.take(piece, &mut sheet);
+    sheet.at
 }
 
-// Writes the lines of one piece, and answers whether they were written.
-fn show_piece(system: System, lister: &mut Lister, piece: &[u8], out: &mut [u8]) -> bool
+// Writes the lines of one piece.
+fn show_piece(
+    system: System,
+    lister: &mut Lister,
+    piece: &[u8],
+    out: &mut [u8],
+) -> Result<(), Stopped>
     requires { MadeByPieces lister.old × (length piece.now ≤ piece_room) × (length out.old ≡ lines_room) }
     ensures { lister.new ≡ take_of lister.old piece.now }
 {
-    let listed = put_piece(*lister, piece, out);
-    *lister = listed.lister;
-    system.write(Output::Standard, &out[..listed.at])
+    let n = put_piece(lister, piece, out);
+    system.write(Output::Standard, &out[..n])
 }
 
 // Puts what stands at the end: where the input has ended, the line of a short tail and the last line, all of both, since the buffer has the
@@ -123,14 +131,16 @@ fn put_end(state: State, lister: Lister, out: &mut [u8]) -> usize
     ensures { Put out.old 0 (at_the_end state (end_of lister)) out.new result }
 {
     if outcomes::is_ended(state) {
-        listing::finish(lister, out, 0)
+        let mut sheet = Sheet::on(out, 0);
+        listing::finish(lister, &mut sheet);
+        sheet.at
     } else {
         0
     }
 }
 
-// Writes it, and answers whether it was written.
-fn show_end(system: System, state: State, lister: Lister) -> bool
+// Writes it.
+fn show_end(system: System, state: State, lister: Lister) -> Result<(), Stopped>
     requires { MadeByPieces lister }
 {
     let mut out = [0u8; 64];
@@ -153,10 +163,10 @@ fn put_summary(state: State, tally: Tally, lister: Lister, out: &mut [u8]) -> us
 }
 
 // Writes it to error output.
-fn show_summary(system: System, state: State, tally: Tally, lister: Lister)
+fn show_summary(system: System, state: State, tally: Tally, lister: Lister) -> Result<(), Stopped>
     requires { MadeByPieces lister × Countable tally }
 {
     let mut out = [0u8; 1536];
     let n = put_summary(state, tally, lister, &mut out);
-    system.write(Output::Errors, &out[..n]);
+    system.write(Output::Errors, &out[..n])
 }

@@ -5,7 +5,7 @@
 #![tactic(auto)]
 
 ghost use Rattle.std.specs.Prelude.{◌≡◌};
-ghost use Rattle.telegram.specs.Telegrams.{step_in, telegram_of, read_refusal, read_of};
+ghost use Rattle.telegram.specs.Telegrams.{telegram_of, read_refusal, read_of};
 ghost use Rattle.hand.specs.Lent.{hand_in};
 ghost use Rattle.hand.specs.Sets.{set_for, is_held};
 ghost use Rattle.listener.specs.Answers.{told_of, hearing_of};
@@ -14,7 +14,7 @@ ghost use Rattle.listener.specs.Lent.{listener_in, listener_bytes, memory_for, s
 
 use condition::Slot;
 use hand::Hand;
-use wire::{Refusal, STEPS};
+use wire::Refusal;
 
 #[derive(Clone, Copy)]
 pub struct Listener {
@@ -101,13 +101,6 @@ pub fn listener_in(memory: &[u8; 310]) -> Listener
     }
 }
 
-// The step number of a telegram.
-fn step_in(telegram: &[u8]) -> u16
-    ensures { result ≡ step_in telegram.now }
-{
-    wire::word_at(telegram, 0) % STEPS
-}
-
 // The set becomes the picture, and no set is in hand.
 #[tactic(auto, unfolding(crate::specs::Lent::shifted_in))]
 fn shift(memory: &mut [u8; 310], step: u16, marks: [bool; 20])
@@ -172,8 +165,8 @@ fn listen(memory: &mut [u8; 310], telegram: &[u8]) -> Answer
     requires { read_refusal telegram.now ≡ 0 }
     ensures { LeftBy carries (heard_of carries (listener_in memory.old) (telegram_of telegram.now)) memory.old telegram.now (told_of result) memory.new }
 {
-    let step = step_in(telegram);
-    let packet = hand::packet_in(telegram);
+    let step = telegram::step_in(telegram);
+    let packet = telegram::packet_in(telegram);
     if last_step::is_last(last_step::last_in(memory), step) || find_or_begin(memory, step, packet) {
         Answer::Repeat
     } else {

@@ -4,7 +4,7 @@ use Prim.Native.Nat.{ℕ, ◌+◌, ◌-◌, ◌*◌, ◌/◌, ◌%◌, ◌<◌, 
 use mathlib.Core.Path.{◌≡◌, refl, ap, ap₂, sym, ◌∙◌, subst, subst⁻¹}
 use mathlib.Core.Logic.{◌⊎◌, inl, inr}
 use mathlib.Core.Bool.{cond}
-use mathlib.Core.List.{List, [], ◌∷◌, ◌++◌, append_assoc}
+use mathlib.Core.List.{List, [], ◌∷◌, ◌++◌}
 use lib.Dec.{eqb, ltb}
 use lib.ListN.{length, take, drop, length-take, length-drop, length-append}
 use lib.Seq.{take-add, take_all, drop_at, drop-drop}
@@ -13,6 +13,9 @@ use borrow.Author.Tests.{eqb-true, ltb-true, ltb-false}
 use Rattle.kit.specs.Put.{Poured}
 use Rattle.kit.proofs.Cases.{on}
 use Rattle.kit.proofs.Put.{poured_as, poured-then}
+use Rattle.text.specs.Putting.{put_on}
+use Rattle.text.specs.declared.sheets.Sheet.{Sheet}
+use Rattle.text.proofs.Putting.{put_next}
 use Rattle.listener.specs.declared.Listener.{Listener}
 use Rattle.listing_tables.specs.Tables.{heard_lines}
 use Rattle.lister.specs.Hearings.{heard_by, tail_of, lines_for}
@@ -31,13 +34,17 @@ pub lacks : {lister : Lister} → MadeByPieces lister → lister.kept < 26
 lacks m = let kept = (made_kept m).1 in omega (arith, kept.short, kept.counted)
 
 -- a piece in two parts
-pub two_parts : (start : Lister) {piece : List ℕ} (first second : List ℕ) → piece ≡ first ++ second → {between end : Lister} {l m n : List ℕ} {at i j : ℕ}
-    → (between ≡ take_of start first) × Poured l at (piece_lines start first) m i → (end ≡ take_of between second) × Poured m i (piece_lines between second) n j
-    → (end ≡ take_of start piece) × Poured l at (piece_lines start piece) n j
-two_parts start {piece} first second both (a, al) (b, bl) = (
-  b ∙ (ap (λ s. take_of s second) a ∙ (sym (take-then start first second) ∙ ap (take_of start) (sym both))),
-  poured_as (ap (piece_lines start) both ∙ (lines-of-then start first second ∙ ap (λ s. piece_lines start first ++ piece_lines s second) (sym a))) (poured-then al bl),
-)
+pub two_parts : (start : Lister) {piece : List ℕ} (first second : List ℕ) → piece ≡ first ++ second → {between end : Lister} (before : Sheet) {middle after : Sheet}
+    → (between ≡ take_of start first) × (middle ≡ put_on (piece_lines start first) before) → (end ≡ take_of between second) × (after ≡ put_on (piece_lines between second) middle)
+    → (end ≡ take_of start piece) × (after ≡ put_on (piece_lines start piece) before)
+two_parts start {piece} first second both {between} before (a, al) (b, bl) =
+    let parts : piece_lines start piece ≡ piece_lines start first ++ piece_lines between second =
+    ap (piece_lines start) both ∙ (lines-of-then start first second ∙ ap (λ s. piece_lines start first ++ piece_lines s second) (sym a)) in (
+      b ∙ (ap (λ s. take_of s second) a ∙ (sym (take-then start first second) ∙ ap (take_of start) (sym both))),
+      bl
+          ∙ (ap (put_on (piece_lines between second)) al
+          ∙ (put_next (piece_lines start first) (piece_lines between second) before ∙ ap (λ bytes. put_on bytes before) (sym parts))),
+    )
 
 -- ---- where no telegram is begun
 
@@ -83,28 +90,25 @@ none_left k bytes whole = ap (λ (l : Lister). l.kept) (take-one k bytes whole)
 -- ---- what is left of a piece when telegrams of it were heard: the state has no telegram begun, or there is nothing left; and the state and
 -- the lines go on from there as from the start
 
-pub record Left (start : Lister) (piece before : List ℕ) (at : ℕ) (lister : Lister) (rest out : List ℕ) (next : ℕ) : Type 0 where
+pub record Left (start : Lister) (piece : List ℕ) (before : Sheet) (lister : Lister) (rest : List ℕ) (sheet : Sheet) : Type 0 where
   pub made : MadeByPieces lister
   pub free : (lister.kept ≡ 0) ⊎ (length rest ≡ 0)
   pub within : length rest ≤ length piece
   pub behind : rest ≡ drop (length piece - length rest) piece
   pub even : length rest % 26 ≡ length piece % 26
   pub goes : take_of lister rest ≡ take_of start piece
-  pub told : List ℕ
-  pub put : Poured before at told out next
-  pub all : told ++ piece_lines lister rest ≡ piece_lines start piece
+  pub put : put_on (piece_lines lister rest) sheet ≡ put_on (piece_lines start piece) before
 
 -- where bytes are left, none is begun
 unbegun : {kept left : ℕ} → (kept ≡ 0) ⊎ (left ≡ 0) → 0 < left → kept ≡ 0
 unbegun (inl none) some = none
 unbegun (inr empty) some = absurd (omega arith)
 
-module _ {start : Lister} {piece before : List ℕ} {at : ℕ} where
-  pub left-all : MadeByPieces start → (start.kept ≡ 0) ⊎ (length piece ≡ 0) → {lister : Lister} {next : ℕ} → lister ≡ start → next ≡ min at (length before)
-      → Left start piece before at lister piece before next
-  left-all m free {lister} {next} same here =
+module _ {start : Lister} {piece : List ℕ} {before : Sheet} where
+  pub left-all : MadeByPieces start → (start.kept ≡ 0) ⊎ (length piece ≡ 0) → {lister : Lister} → lister ≡ start → Left start piece before lister piece before
+  left-all m free {lister} same =
       let none : length piece - length piece ≡ 0 = omega arith in
-      subst⁻¹ (λ l. Left start piece before at l piece before next) same
+      subst⁻¹ (λ l. Left start piece before l piece before) same
       (record {
         made = m;
         free = free;
@@ -112,22 +116,23 @@ module _ {start : Lister} {piece before : List ℕ} {at : ℕ} where
         behind = ap (λ k. drop k piece) (sym none);
         even = refl;
         goes = refl;
-        told = [];
-        put = record { stored = refl; past = omega arith };
-        all = refl;
+        put = refl;
       })
 
   -- one telegram of it
-  pub left-next : {lister : Lister} {rest out : List ℕ} {next : ℕ} (telegram more : List ℕ) → Left start piece before at lister rest out next → rest ≡ telegram ++ more → length telegram ≡ 26
-      → {listener : Listener} {tables to : ℕ} {after : List ℕ} → HeardNext (heard_by lister.listener telegram) lister.tables listener tables
-      → Poured out next (heard_lines (heard_by lister.listener telegram)) after to
-      → Left start piece before at (state listener tables lister.tail lister.kept) more after to
-  left-next {lister} {rest} telegram more l cut long {listener} {tables} heard put =
+  pub left-next : {lister : Lister} {rest : List ℕ} {sheet : Sheet} (telegram more : List ℕ) → Left start piece before lister rest sheet → rest ≡ telegram ++ more → length telegram ≡ 26
+      → {listener : Listener} {tables : ℕ} {after : Sheet} → HeardNext (heard_by lister.listener telegram) lister.tables listener tables
+      → after ≡ put_on (heard_lines (heard_by lister.listener telegram)) sheet
+      → Left start piece before (state listener tables lister.tail lister.kept) more after
+  left-next {lister} {rest} {sheet} telegram more l cut long {listener} {tables} heard put =
       let size : length rest ≡ 26 + length more = ap length cut ∙ omega (arith, length-append telegram more, long) in
       let zero-kept : lister.kept ≡ 0 = unbegun l.free (omega (arith, size)) in
       let kept : Kept lister [] = none-begun l.made zero-kept in
-      let same : state listener tables lister.tail lister.kept ≡ take_of lister telegram = whole-taken kept telegram long listener tables heard in
-      let told : heard_lines (heard_by lister.listener telegram) ≡ piece_lines lister telegram = sym (whole-lines kept telegram long) in
+      let next : Lister = state listener tables lister.tail lister.kept in
+      let same : next ≡ take_of lister telegram = whole-taken kept telegram long listener tables heard in
+      let lines : List ℕ = heard_lines (heard_by lister.listener telegram) in
+      let told : lines ++ piece_lines next more ≡ piece_lines lister rest =
+      ap₂ (λ x s. x ++ piece_lines s more) (sym (whole-lines kept telegram long)) same ∙ (sym (lines-of-then lister telegram more) ∙ ap (piece_lines lister) (sym cut)) in
       let past : length piece - length more ≡ length piece - length rest + 26 = omega (arith, size, l.within) in
       record {
         made = here lister telegram l.made same;
@@ -138,14 +143,10 @@ module _ {start : Lister} {piece before : List ℕ} {at : ℕ} where
             ∙ (ap (drop 26) (sym cut ∙ l.behind) ∙ (drop-drop 26 (length piece - length rest) piece ∙ ap (λ k. drop k piece) (sym past)));
         even = omega (arith, size, l.even);
         goes = ap (λ s. take_of s more) same ∙ (sym (take-then lister telegram more) ∙ (ap (take_of lister) (sym cut) ∙ l.goes));
-        told = l.told ++ heard_lines (heard_by lister.listener telegram);
-        put = poured-then l.put put;
-        all =
-            append_assoc l.told (heard_lines (heard_by lister.listener telegram)) (piece_lines (state listener tables lister.tail lister.kept) more)
-            ∙ (ap (λ x. l.told ++ x) (ap₂ (λ x s. x ++ piece_lines s more) told same ∙ (sym (lines-of-then lister telegram more) ∙ ap (piece_lines lister) (sym cut))) ∙ l.all);
+        put = ap (put_on (piece_lines next more)) put ∙ (put_next lines (piece_lines next more) sheet ∙ (ap (λ bytes. put_on bytes sheet) told ∙ l.put));
       }
 
-  module _ {lister : Lister} {rest out : List ℕ} {next : ℕ} (l : Left start piece before at lister rest out next) where
+  module _ {lister : Lister} {rest : List ℕ} {sheet : Sheet} (l : Left start piece before lister rest sheet) where
     -- fewer bytes than a telegram has are left: those at the end, and they have room
     pub left-behind : length rest < 26 → rest ≡ drop (length piece - length piece % 26) piece
     left-behind few = let long : length piece - length rest ≡ length piece - length piece % 26 = omega (arith, l.even) in l.behind ∙ ap (λ k. drop k piece) long
@@ -158,13 +159,13 @@ module _ {start : Lister} {piece before : List ℕ} {at : ℕ} where
         go (inr empty) = omega (arith, lacks l.made)
 
     -- the same under other names
-    pub left_as : {other : Lister} {bytes : List ℕ} → other ≡ lister → bytes ≡ rest → Left start piece before at other bytes out next
-    left_as {other} {bytes} same e = subst⁻¹ (λ s. Left start piece before at s bytes out next) same (subst⁻¹ (λ b. Left start piece before at lister b out next) e l)
+    pub left_as : {other : Lister} {bytes : List ℕ} → other ≡ lister → bytes ≡ rest → Left start piece before other bytes sheet
+    left_as {other} {bytes} same e = subst⁻¹ (λ s. Left start piece before s bytes sheet) same (subst⁻¹ (λ b. Left start piece before lister b sheet) e l)
 
     -- what is left is taken
-    pub left-done : {end : Lister} {after : List ℕ} {to : ℕ} → end ≡ take_of lister rest → Poured out next (piece_lines lister rest) after to
-        → (end ≡ take_of start piece) × Poured before at (piece_lines start piece) after to
-    left-done same put = (same ∙ l.goes, poured_as (sym l.all) (poured-then l.put put))
+    pub left-done : {end : Lister} {after : Sheet} → end ≡ take_of lister rest → after ≡ put_on (piece_lines lister rest) sheet
+        → (end ≡ take_of start piece) × (after ≡ put_on (piece_lines start piece) before)
+    left-done same put = (same ∙ l.goes, put ∙ l.put)
 
 -- the bytes that the telegram in hand lacks, and those behind them
 module _ {lister : Lister} {piece : List ℕ} (first second : List ℕ) (m : MadeByPieces lister) (both : piece ≡ first ++ second)

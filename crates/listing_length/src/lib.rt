@@ -6,6 +6,7 @@ ghost use Rattle.std.specs.Prelude.{◌≡◌};
 ghost use Rattle.listing_length.specs.Lengths.{listing_length};
 
 use lister::Lister;
+use text::Sheet;
 
 // How many bytes of the recording are listed at once: a hundred telegrams.
 const PIECE: usize = 2600;
@@ -16,12 +17,16 @@ pub fn length_of(recording: &[u8]) -> usize
 {
     // room for the lines of a piece, and for the table whose packets were held before it (specs/Lengths.antt)
     let mut out = [0u8; 13419];
+    let mut sheet = Sheet::on(&mut out, 0);
+    listing_lines::put_header(&mut sheet);
+    let mut bytes = sheet.at;
     let mut lister = Lister::begun();
-    let mut bytes = listing_lines::put_header(&mut out, 0);
     for piece in recording.chunks(PIECE) {
-        let listed = lister.take(piece, &mut out, 0);
-        lister = listed.lister;
-        bytes = bytes.saturating_add(listed.at);
+        sheet.at = 0;
+        lister = lister.take(piece, &mut sheet);
+        bytes = bytes.saturating_add(sheet.at);
     }
-    bytes.saturating_add(listing::finish(lister, &mut out, 0))
+    sheet.at = 0;
+    listing::finish(lister, &mut sheet);
+    bytes.saturating_add(sheet.at)
 }

@@ -117,6 +117,7 @@ pub fn put_entry(place: usize, slot: Slot, carried: bool, page: &mut Sheet<'_>)
         return;
     }
     let coded = condition::coded_of(slot);
+    // `as`, since the place is below 256: the error of a `TryFrom` could not come
     put_numbers(place as u8, slot.number, coded.kind, page);
     put_both(coded.first, slot.body, page);
     put_mark(carried, page);

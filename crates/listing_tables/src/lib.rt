@@ -5,7 +5,7 @@
 mod entries;
 
 ghost use Rattle.std.specs.Prelude.{◌≡◌, ◌++◌};
-ghost use Rattle.kit.specs.Put.{Poured};
+ghost use Rattle.text.specs.Putting.{put_on};
 ghost use Rattle.page.specs.Pages.{room_for, PagedOn};
 ghost use Rattle.memory.specs.Memory.{picture_in, marks_in};
 ghost use Rattle.listener.specs.Answers.{told_of};
@@ -29,42 +29,36 @@ fn put_picture(memory: &[u8; 310], page: &mut Sheet<'_>)
 }
 
 // The line of a table and those of its slots, made on a page and copied from it.
-fn put_table(
-    step: u16,
-    count: u8,
-    gap: u16,
-    memory: &[u8; 310],
-    listing: &mut [u8],
-    at: usize,
-) -> usize
-    ensures { Poured listing.old at (table_line step count gap ++ picture_lines (picture_in memory.now) (marks_in memory.now)) listing.new result }
+fn put_table(step: u16, count: u8, gap: u16, memory: &[u8; 310], listing: &mut Sheet<'_>)
+    ensures { listing.new ≡ put_on (table_line step count gap ++ picture_lines (picture_in memory.now) (marks_in memory.now)) listing.old }
 {
     let mut bytes = [0u8; 768];
     let mut page = Sheet::on(&mut bytes, 0);
     entries::put_table_line(step, count, gap, &mut page);
     put_picture(memory, &mut page);
     let end = page.at;
-    text::put_words(listing, at, &bytes[..end])
+    listing.put_words(&bytes[..end]);
 }
 
 // A line for a refusal, and none for any other answer.
-fn put_refusal(answer: Answer, listing: &mut [u8], at: usize) -> usize
-    ensures { Poured listing.old at (refusal_lines (told_of answer)) listing.new result }
+#[tactic(auto, using(text::proofs::Putting::put_none))]
+fn put_refusal(answer: Answer, listing: &mut Sheet<'_>)
+    ensures { listing.new ≡ put_on (refusal_lines (told_of answer)) listing.old }
 {
     let Answer::Refused(number) = answer else {
-        return at.min(listing.len());
+        return;
     };
-    listing_lines::put_refused(number, listing, at)
+    listing_lines::put_refused(number, listing);
 }
 
-// The lines of an answer, with the memory of the listener that gave it.
-pub fn put_heard(answer: Answer, memory: &[u8; 310], listing: &mut [u8], at: usize) -> usize
-    ensures { Poured listing.old at (answer_lines (told_of answer) (picture_in memory.now) (marks_in memory.now)) listing.new result }
+// The lines of an answer, with the memory of the listener that gave it. Document 01 wants it taken apart by `let else`.
+pub fn put_heard(answer: Answer, memory: &[u8; 310], listing: &mut Sheet<'_>)
+    ensures { listing.new ≡ put_on (answer_lines (told_of answer) (picture_in memory.now) (marks_in memory.now)) listing.old }
 {
     let Answer::Taken { step, count, gap } = answer else {
-        return put_refusal(answer, listing, at);
+        return put_refusal(answer, listing);
     };
-    put_table(step, count, gap, memory, listing, at)
+    put_table(step, count, gap, memory, listing);
 }
 
 // How many tables an answer takes: one or none.

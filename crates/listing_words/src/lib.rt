@@ -1,17 +1,21 @@
-// The words of a listing: the two marks of a condition, which are compared and written, and a number put into a lent buffer.
+// The words of a listing: the two marks of a condition, which are compared and written, and a number put on a sheet.
 #![tactic(auto)]
 
-ghost use Rattle.kit.specs.Put.{Poured};
+ghost use Rattle.std.specs.Prelude.{◌≡◌};
+ghost use Rattle.text.specs.Putting.{put_on};
 ghost use Rattle.listing_words.specs.Words.{number_then};
+
+use text::Sheet;
 
 pub const NEW: [u8; 3] = *b"new";
 
 pub const CARRIED: [u8; 7] = *b"carried";
 
 // A number in decimal, and one byte after it.
-pub fn put_number(number: u64, after: u8, line: &mut [u8], at: usize) -> usize
-    ensures { Poured line.old at (number_then number after) line.new result }
+#[tactic(auto, using(text::proofs::Putting::put_next))]
+pub fn put_number(number: u64, after: u8, line: &mut Sheet<'_>)
+    ensures { line.new ≡ put_on (number_then number after) line.old }
 {
-    let next = text::put_decimal(line, at, number);
-    text::put_byte(line, next, after)
+    line.put_decimal(number);
+    line.put_byte(after);
 }

@@ -83,7 +83,8 @@ pub fn is_marked(memory: &[u8; 310], i: usize) -> bool
     i < SLOTS && memory[MARKS + i] != 0
 }
 
-// The table whose bytes begin at `from`.
+// The table whose bytes begin at `from`, made by `from_fn`, since there is no array of slots that a `map` could go over. It asks for room,
+// and who calls this crate is asked for nothing: each of the two places that a table has is a function of its own, here and in putting.
 fn table_at(memory: &[u8; 310], from: usize) -> [Slot; 20]
     requires { from + 140 ≤ 310 }
     ensures { result ≡ table_at memory.now from }
@@ -105,7 +106,7 @@ pub fn set_in(memory: &[u8; 310]) -> [Slot; 20]
     table_at(memory, SET)
 }
 
-// Which slots of the picture are marked as carried.
+// Which slots of the picture are marked as carried. A `map` would go over a copy of their bytes.
 pub fn marks_in(memory: &[u8; 310]) -> [bool; 20]
     ensures { result ≡ marks_in memory.now }
 {

@@ -3,11 +3,11 @@
 #![tactic(auto)]
 
 ghost use Rattle.std.specs.Prelude.{◌≡◌};
-ghost use Rattle.resting.specs.Rests.{is_resting};
+ghost use Rattle.resting.specs.Rests.{rests_in};
 ghost use Rattle.numbers.specs.Numbers.{has_number, is_permitted, number_after, next_number};
 
 use places::Place;
-use resting::Ended;
+use resting::AtRest;
 
 // How many numbers there are to give: 1 to 255.
 const NUMBERS: u16 = 255;
@@ -19,10 +19,10 @@ fn has_number(places: [Place; 20], number: u8) -> bool
     places.iter().any(|place| place.slot.number == number)
 }
 
-fn is_permitted(places: [Place; 20], ended: [Ended; 160], rest: u16, step: u16, number: u8) -> bool
-    ensures { result ≡ is_permitted (is_resting rest step ended) places number }
+fn is_permitted(places: [Place; 20], at_rest: &AtRest, number: u8) -> bool
+    ensures { result ≡ is_permitted (rests_in at_rest.now) places number }
 {
-    !has_number(places, number) && !resting::is_resting(ended, rest, step, number)
+    !has_number(places, number) && !at_rest.is_resting(number)
 }
 
 // The number that follows the last one given after so many others. 255 is followed by 1; 0 is never given.
@@ -34,12 +34,12 @@ fn number_after(last: u8, others: u8) -> u8
 
 // The first permitted number after the last one given. There always is one, since twenty live numbers and 160 kept ones are
 // fewer than 255, so the loop ends at one.
-pub fn next_number(places: [Place; 20], ended: [Ended; 160], last: u8, rest: u16, step: u16) -> u8
-    ensures { result ≡ next_number (is_resting rest step ended) places last }
+pub fn next_number(places: [Place; 20], last: u8, at_rest: AtRest) -> u8
+    ensures { result ≡ next_number (rests_in at_rest) places last }
 {
     for others in 0..NUMBERS as u8 {
         let number = number_after(last, others);
-        if is_permitted(places, ended, rest, step, number) {
+        if is_permitted(places, &at_rest, number) {
             return number;
         }
     }

@@ -45,6 +45,12 @@ condition-coded_of κs handed answer other lasts others p q = (agree p q, refl)
 
 -- ---- telegram
 
+pub telegram-packet_in : OneAnswer telegram-contracts.packet_in.ended telegram.packet_in.Reads.Learnt
+telegram-packet_in κs handed answer other lasts others p q = (agree p.0 q.0, refl)
+
+pub telegram-step_in : OneAnswer telegram-contracts.step_in.ended telegram.step_in.Reads.Learnt
+telegram-step_in κs handed answer other lasts others p q = (agree p q, refl)
+
 pub telegram-slot_in : OneAnswer telegram-contracts.slot_in.ended telegram.slot_in.Reads.Learnt
 telegram-slot_in κs handed answer other lasts others p q = (agree p q, refl)
 

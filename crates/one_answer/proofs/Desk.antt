@@ -63,7 +63,7 @@ orders-refusal_of κs handed answer other lasts others p q = (refusal_number-apa
 pub resting-none : OneAnswer resting-contracts.Ended.none.ended resting.Ended.none.Reads.Learnt
 resting-none κs handed answer other lasts others p q = (agree p q, refl)
 
-pub resting-is_resting : OneAnswer resting-contracts.is_resting.ended resting.is_resting.Reads.Learnt
+pub resting-is_resting : OneAnswer resting-contracts.AtRest.is_resting.ended resting.AtRest.is_resting.Reads.Learnt
 resting-is_resting κs handed answer other lasts others p q = (agree p q, refl)
 
 -- ---- numbers

@@ -80,9 +80,6 @@ last_step-put_last κs handed answer other lasts others p q = (refl, ap (λ b. (
 pub hand-begin : OneAnswer hand-contracts.begin.ended hand.begin.Reads.Learnt
 hand-begin κs handed answer other lasts others p q = (refl, ap (λ b. (b, (tt, tt))) (agree p q))
 
-pub hand-packet_in : OneAnswer hand-contracts.packet_in.ended hand.packet_in.Reads.Learnt
-hand-packet_in κs handed answer other lasts others p q = (agree p.0 q.0, refl)
-
 pub hand-step_of : OneAnswer hand-contracts.step_of.ended hand.step_of.Reads.Learnt
 hand-step_of κs handed answer other lasts others p q = (agree p q, refl)
 

@@ -28,18 +28,18 @@ use Rattle.exports.specs.contracts as exports-contracts
 -- ---- listing_words
 
 pub listing_words-put_number : OneAnswer listing-words-contracts.put_number.ended listing-words.put_number.Reads.Learnt
-listing_words-put_number κs handed answer other lasts others p q = given (agree-poured p q) (λ (place, bytes). (place, ap (λ b. (tt, (tt, (b, (tt, tt))))) bytes))
+listing_words-put_number κs handed answer other lasts others p q = (refl, ap (λ sheet. (tt, (tt, (sheet, tt)))) (agree p q))
 
 -- ---- listing_lines
 
 pub listing_lines-put_header : OneAnswer listing-lines-contracts.put_header.ended listing-lines.put_header.Reads.Learnt
-listing_lines-put_header κs handed answer other lasts others p q = given (agree-poured p q) (λ (place, bytes). (place, ap (λ b. (b, (tt, tt))) bytes))
+listing_lines-put_header κs handed answer other lasts others p q = (refl, ap (λ sheet. (sheet, tt)) (agree p q))
 
 pub listing_lines-put_refused : OneAnswer listing-lines-contracts.put_refused.ended listing-lines.put_refused.Reads.Learnt
-listing_lines-put_refused κs handed answer other lasts others p q = given (agree-poured p q) (λ (place, bytes). (place, ap (λ b. (tt, (b, (tt, tt)))) bytes))
+listing_lines-put_refused κs handed answer other lasts others p q = (refl, ap (λ sheet. (tt, (sheet, tt))) (agree p q))
 
 pub listing_lines-put_end : OneAnswer listing-lines-contracts.put_end.ended listing-lines.put_end.Reads.Learnt
-listing_lines-put_end κs handed answer other lasts others p q = given (agree-poured p q) (λ (place, bytes). (place, ap (λ b. (tt, (b, (tt, tt)))) bytes))
+listing_lines-put_end κs handed answer other lasts others p q = (refl, ap (λ sheet. (tt, (sheet, tt))) (agree p q))
 
 -- ---- listing_reader
 
@@ -52,7 +52,7 @@ listing_reader-code_of κs handed answer other lasts others p q = (agree p q, re
 -- ---- listing_tables
 
 pub listing_tables-put_heard : OneAnswer listing-tables-contracts.put_heard.ended listing-tables.put_heard.Reads.Learnt
-listing_tables-put_heard κs handed answer other lasts others p q = given (agree-poured p q) (λ (place, bytes). (place, ap (λ b. (tt, (tt, (b, (tt, tt))))) bytes))
+listing_tables-put_heard κs handed answer other lasts others p q = (refl, ap (λ sheet. (tt, (tt, (sheet, tt)))) (agree p q))
 
 pub listing_tables-tables_of : OneAnswer listing-tables-contracts.tables_of.ended listing-tables.tables_of.Reads.Learnt
 listing_tables-tables_of κs handed answer other lasts others p q = (agree p q, refl)
@@ -63,10 +63,7 @@ pub lister-begun : OneAnswer lister-contracts.Lister.begun.ended lister.Lister.b
 lister-begun κs handed answer other lasts others p q = (agree p q, refl)
 
 pub lister-take : OneAnswer lister-contracts.Lister.take.ended lister.Lister.take.Reads.Learnt
-lister-take κs handed answer other lasts others p q =
-    let put = agree-poured p.1 q.1 in
-    let next = agree p.0 q.0 in
-    ((λ i. record { lister = next i; at = put.0 i }), ap (λ bytes. (tt, (tt, (bytes, (tt, tt))))) put.1)
+lister-take κs handed answer other lasts others p q = (agree p.0 q.0, ap (λ sheet. (tt, (tt, (sheet, tt)))) (agree p.1 q.1))
 
 -- the contract of `listener::hear_in`, word for word
 pub lister-hear_in : OneAnswer lister-contracts.hear_in.ended lister.hear_in.Reads.Learnt
@@ -80,7 +77,7 @@ hearing_runs-hear κs handed answer other lasts others p q = given (agree-poured
 -- ---- listing
 
 pub listing-finish : OneAnswer listing-contracts.finish.ended listing.finish.Reads.Learnt
-listing-finish κs handed answer other lasts others p q = given (agree-poured p q) (λ (place, bytes). (place, ap (λ b. (tt, (b, (tt, tt)))) bytes))
+listing-finish κs handed answer other lasts others p q = (refl, ap (λ sheet. (tt, (sheet, tt))) (agree p q))
 
 pub listing-list : OneAnswer listing-contracts.list.ended listing.list.Reads.Learnt
 listing-list κs handed answer other lasts others p q = given (agree-poured p q) (λ (place, bytes). (place, ap (λ b. (tt, (b, tt))) bytes))

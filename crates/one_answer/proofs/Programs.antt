@@ -1,8 +1,7 @@
 -- One answer of what all programs share: each contract admits one (C-04). The calls of C are exceptions (docs/CONTRACTS.md).
 use mathlib.Core.Path.{refl, ap}
-use Rattle.kit.proofs.Cases.{given}
 use Rattle.kit.specs.Contracts.{OneAnswer}
-use Rattle.kit.proofs.Contracts.{agree, agree-poured}
+use Rattle.kit.proofs.Contracts.{agree}
 use Rattle.same_text.proofs as same_text
 use Rattle.same_text.specs.contracts as same_text-contracts
 use Rattle.outcomes.proofs as outcomes
@@ -56,16 +55,16 @@ pub outcomes-is_due : OneAnswer outcomes-contracts.progress.Progress.is_due.ende
 outcomes-is_due κs handed answer other lasts others p q = (agree p q, refl)
 
 pub outcomes-put_line : OneAnswer outcomes-contracts.progress.Progress.put_line.ended outcomes.progress.Progress.put_line.Reads.Learnt
-outcomes-put_line κs handed answer other lasts others p q = given (agree-poured p q) (λ (place, bytes). (place, ap (λ b. (tt, (b, (tt, tt)))) bytes))
+outcomes-put_line κs handed answer other lasts others p q = (refl, ap (λ s. (tt, (s, tt))) (agree p q))
 
 pub program-put_answer : OneAnswer program-contracts.put_answer.ended program.put_answer.Reads.Learnt
-program-put_answer κs handed answer other lasts others p q = given (agree-poured p q) (λ (place, bytes). (place, ap (λ b. (tt, (tt, (tt, (b, (tt, tt)))))) bytes))
+program-put_answer κs handed answer other lasts others p q = (refl, ap (λ s. (tt, (tt, (tt, (s, tt))))) (agree p q))
 
 pub program-put_awaiting : OneAnswer program-contracts.put_awaiting.ended program.put_awaiting.Reads.Learnt
-program-put_awaiting κs handed answer other lasts others p q = given (agree-poured p q) (λ (place, bytes). (place, ap (λ b. (tt, (b, (tt, tt)))) bytes))
+program-put_awaiting κs handed answer other lasts others p q = (refl, ap (λ s. (tt, (s, tt))) (agree p q))
 
 pub program-put_doing : OneAnswer program-contracts.put_doing.ended program.put_doing.Reads.Learnt
-program-put_doing κs handed answer other lasts others p q = given (agree-poured p q) (λ (place, bytes). (place, ap (λ b. (tt, (tt, (tt, (b, (tt, tt)))))) bytes))
+program-put_doing κs handed answer other lasts others p q = (refl, ap (λ s. (tt, (tt, (tt, (s, tt))))) (agree p q))
 
 pub outcomes-is_ended : OneAnswer outcomes-contracts.is_ended.ended outcomes.is_ended.Reads.Learnt
 outcomes-is_ended κs handed answer other lasts others p q = (agree p q, refl)

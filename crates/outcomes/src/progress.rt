@@ -1,7 +1,9 @@
 // How far a reading is: a line on a terminal that is written again and again in its place.
 ghost use Rattle.std.specs.Prelude.{◌≡◌};
-ghost use Rattle.kit.specs.Put.{Poured};
+ghost use Rattle.text.specs.Putting.{put_on};
 ghost use Rattle.outcomes.specs.Progress.{progress_of, advanced_by, is_due, progress_line};
+
+use text::Sheet;
 
 // Whether it is shown at all, how many bytes the input has, how many were read, and how many reads ago the line was written, modulo 128.
 // A flag and no Option of the rest: `advanced` and `put_line` keep and put the counts of one that is not shown, too.
@@ -48,12 +50,13 @@ impl Progress {
     }
 
     // `N of M bytes`, and a return to the beginning of the line, so that what is written next stands in its place.
-    pub fn put_line(self, out: &mut [u8], at: usize) -> usize
-        ensures { Poured out.old at (progress_line self) out.new result }
+    #[tactic(auto, unfolding(crate::specs::Progress::progress_line), using(text::proofs::Putting::put_next))]
+    pub fn put_line(self, sheet: &mut Sheet<'_>)
+        ensures { sheet.new ≡ put_on (progress_line self) sheet.old }
     {
-        let second = text::put_decimal(out, at, self.done);
-        let third = text::put_words(out, second, b" of ");
-        let fourth = text::put_decimal(out, third, self.size);
-        text::put_words(out, fourth, b" bytes\r")
+        sheet.put_decimal(self.done);
+        sheet.put_words(b" of ");
+        sheet.put_decimal(self.size);
+        sheet.put_words(b" bytes\r");
     }
 }

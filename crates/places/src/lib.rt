@@ -28,7 +28,8 @@ impl Place {
     }
 }
 
-// The orders that have the twenty places, in their order; 0 of a free one.
+// The orders that have the twenty places, in their order; 0 of a free one. By `from_fn`: with the array's `map` a desk took half as long
+// again for a list.
 pub fn orders_of(places: [Place; 20]) -> [u32; 20]
     ensures { result ≡ orders_of places }
 {

@@ -1,8 +1,10 @@
 // What a program was doing when a call failed. The system's reason follows it on the line, after a colon and a blank.
-ghost use Rattle.kit.specs.Put.{Poured};
+ghost use Rattle.std.specs.Prelude.{◌≡◌};
+ghost use Rattle.text.specs.Putting.{put_on};
 ghost use Rattle.program.specs.Failures.{doing_words, doing_text};
 
 use crate::names::{Program, put_name};
+use text::Sheet;
 
 #[derive(Clone, Copy)]
 pub enum Doing {
@@ -14,30 +16,33 @@ pub enum Doing {
     TakingArgument,
 }
 
-fn put_words_of(doing: Doing, name: &[u8], out: &mut [u8], at: usize) -> usize
-    ensures { Poured out.old at (doing_words doing name.now) out.new result }
+// By a match that puts, and no text for each case, since two have a name behind it.
+#[tactic(auto, using(text::proofs::Putting::put_next))]
+fn put_words_of(doing: Doing, name: &[u8], sheet: &mut Sheet<'_>)
+    ensures { sheet.new ≡ put_on (doing_words doing name.now) sheet.old }
 {
     match doing {
-        Doing::ReadingStandard => text::put_words(out, at, b"reading standard input"),
+        Doing::ReadingStandard => sheet.put_words(b"reading standard input"),
         Doing::ReadingFile => {
-            let next = text::put_words(out, at, b"reading ");
-            text::put_words(out, next, name)
+            sheet.put_words(b"reading ");
+            sheet.put_words(name);
         }
         Doing::Opening => {
-            let next = text::put_words(out, at, b"opening ");
-            text::put_words(out, next, name)
+            sheet.put_words(b"opening ");
+            sheet.put_words(name);
         }
-        Doing::Writing => text::put_words(out, at, b"writing standard output"),
-        Doing::Telling => text::put_words(out, at, b"writing error output"),
-        Doing::TakingArgument => text::put_words(out, at, b"taking an argument"),
+        Doing::Writing => sheet.put_words(b"writing standard output"),
+        Doing::Telling => sheet.put_words(b"writing error output"),
+        Doing::TakingArgument => sheet.put_words(b"taking an argument"),
     }
 }
 
 // The program's name, and what it was doing; a file has its name there.
-pub fn put_doing(program: Program, doing: Doing, name: &[u8], out: &mut [u8], at: usize) -> usize
-    ensures { Poured out.old at (doing_text program doing name.now) out.new result }
+#[tactic(auto, unfolding(crate::specs::Failures::doing_text), using(text::proofs::Putting::put_next))]
+pub fn put_doing(program: Program, doing: Doing, name: &[u8], sheet: &mut Sheet<'_>)
+    ensures { sheet.new ≡ put_on (doing_text program doing name.now) sheet.old }
 {
-    let second = put_name(program, out, at);
-    let third = text::put_words(out, second, b": ");
-    put_words_of(doing, name, out, third)
+    put_name(program, sheet);
+    sheet.put_words(b": ");
+    put_words_of(doing, name, sheet);
 }

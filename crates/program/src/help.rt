@@ -1,9 +1,10 @@
 // The page that `--help` shows, of each program. The manual pages are made of the same text.
 ghost use Rattle.std.specs.Prelude.{◌≡◌};
-ghost use Rattle.kit.specs.Put.{Poured};
+ghost use Rattle.text.specs.Putting.{put_on};
 ghost use Rattle.program.specs.Help.{help_text};
 
 use crate::names::Program;
+use text::Sheet;
 
 const LIST_CONDITIONS: [u8; 985] =
     *b"list_conditions: lists recorded telegrams of track conditions\n\
@@ -85,8 +86,8 @@ fn help(program: Program) -> &'static [u8]
     }
 }
 
-pub fn put_help(program: Program, out: &mut [u8], at: usize) -> usize
-    ensures { Poured out.old at (help_text program) out.new result }
+pub fn put_help(program: Program, sheet: &mut Sheet<'_>)
+    ensures { sheet.new ≡ put_on (help_text program) sheet.old }
 {
-    text::put_words(out, at, help(program))
+    sheet.put_words(help(program));
 }

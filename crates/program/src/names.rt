@@ -1,7 +1,9 @@
 // The programs, by name.
 ghost use Rattle.std.specs.Prelude.{◌≡◌};
-ghost use Rattle.kit.specs.Put.{Poured};
+ghost use Rattle.text.specs.Putting.{put_on};
 ghost use Rattle.program.specs.Names.{name_of};
+
+use text::Sheet;
 
 #[derive(Clone, Copy, Debug, PartialEq, Eq)]
 pub enum Program {
@@ -10,6 +12,7 @@ pub enum Program {
     ReadSignals,
 }
 
+// By a match, as the other texts of a program are: a table of texts would rest on the order of the cases.
 fn name(program: Program) -> &'static [u8]
     ensures { result.now ≡ name_of program }
 {
@@ -20,8 +23,8 @@ fn name(program: Program) -> &'static [u8]
     }
 }
 
-pub fn put_name(program: Program, out: &mut [u8], at: usize) -> usize
-    ensures { Poured out.old at (name_of program) out.new result }
+pub fn put_name(program: Program, sheet: &mut Sheet<'_>)
+    ensures { sheet.new ≡ put_on (name_of program) sheet.old }
 {
-    text::put_words(out, at, name(program))
+    sheet.put_words(name(program));
 }

@@ -4,14 +4,13 @@
 
 ghost use Rattle.std.specs.Prelude.{◌≡◌, option_copied};
 ghost use Rattle.outcomes.specs.Ends.{where_short};
-ghost use Rattle.text.specs.Putting.{put_on};
 ghost use Rattle.signals.specs.Signals.{update_by};
 ghost use Rattle.signals_output.specs.Lines.{short_call_line};
 
 use outcomes::{End, Progress};
 use program::Program;
 use signals::{Signals, Updated};
-use streams::{Output, Source, System};
+use streams::{Output, Source, Stopped, System};
 use text::Sheet;
 
 fn main(rt: HostRuntime) {
@@ -19,11 +18,12 @@ fn main(rt: HostRuntime) {
         rt: &rt,
         program: Program::ReadSignals,
     };
-    system.run(|_, source, progress| follow(source, progress));
+    // what stopped it was told
+    system.run(|_, source, progress| follow(source, progress).unwrap_or(()));
 }
 
 // Keeps the record to the input's end, or to the first read or write that fails.
-fn follow(source: &Source, begun: Progress) {
+fn follow(source: &Source, begun: Progress) -> Result<(), Stopped> {
     let system = source.system;
     let mut signals = Signals::fresh();
     let mut progress = begun;
@@ -33,21 +33,19 @@ fn follow(source: &Source, begun: Progress) {
             Ok(telegram) => {
                 let length = telegram.map_or(0, |bytes| bytes.len());
                 progress = system.went_on(progress, frames::LENGTH + length);
-                if !take(system, &mut signals, telegram) {
-                    return;
-                }
+                take(system, &mut signals, telegram)?;
             }
             Err(end) => {
                 system.end_progress(progress);
-                show_end(system, end);
-                return;
+                return system.write(Output::Standard, at_end(end));
             }
         }
     }
+    Ok(())
 }
 
-// Hands one call to the record, which is lent for it, and shows the answer. Answers whether that was written.
-fn take(system: System, signals: &mut Signals, telegram: Option<&[u8]>) -> bool
+// Hands one call to the record, which is lent for it, and shows the answer.
+fn take(system: System, signals: &mut Signals, telegram: Option<&[u8]>) -> Result<(), Stopped>
     ensures { signals.new ≡ (update_by signals.old (option_copied telegram.entry)).signals }
 {
     let updated = signals_in_place::lend_and_update_by(*signals, telegram);
@@ -56,7 +54,7 @@ fn take(system: System, signals: &mut Signals, telegram: Option<&[u8]>) -> bool
 }
 
 #[tactic(auto, unfolding(text::specs::Putting::put_on))]
-fn show_line(system: System, updated: Updated) -> bool {
+fn show_line(system: System, updated: Updated) -> Result<(), Stopped> {
     let mut line = [0u8; 256];
     let mut sheet = Sheet::on(&mut line, 0);
     signals_output::put_line(updated, &mut sheet);
@@ -64,22 +62,14 @@ fn show_line(system: System, updated: Updated) -> bool {
     system.write(Output::Standard, &line[..n])
 }
 
-// Puts the line on a call that is not whole, where the input has ended inside one; after a read that failed, nothing. One function for this
-// program and `run_desk` would be no shorter: it would be lent `put_short` of each as a closure, and a contract on what that puts.
-#[tactic(auto, unfolding(outcomes::specs::Ends::where_short), using(text::proofs::Putting::put_none))]
-fn put_end(end: End, line: &mut Sheet<'_>)
-    ensures { line.new ≡ put_on (where_short end short_call_line) line.old }
+// What is said at the end: the line on a call that is not whole, where the input has ended inside one; after a read that failed, nothing.
+#[tactic(auto, unfolding(signals_output::specs::Lines::short_call_line))]
+fn at_end(end: End) -> &'static [u8]
+    ensures { result.now ≡ where_short end short_call_line }
 {
     if outcomes::is_short(end) {
-        signals_output::put_short(line);
+        signals_output::SHORT_CALL
+    } else {
+        b""
     }
-}
-
-#[tactic(auto, unfolding(text::specs::Putting::put_on))]
-fn show_end(system: System, end: End) {
-    let mut line = [0u8; 11];
-    let mut sheet = Sheet::on(&mut line, 0);
-    put_end(end, &mut sheet);
-    let n = sheet.at;
-    system.write(Output::Standard, &line[..n]);
 }

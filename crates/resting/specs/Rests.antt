@@ -5,6 +5,7 @@
 use Rattle.std.specs.Prelude.{ℕ, Bool, ◌&&◌, List, eqb, ltb, length, get_or}
 use Rattle.kit.specs.Loops.{any}
 use Rattle.wire.specs.Steps.{gap_of}
+use Rattle.resting.specs.declared.AtRest.{AtRest}
 use Rattle.resting.specs.declared.Ended.{Ended}
 
 -- A-40: an entry of the ended numbers that says nothing
@@ -22,3 +23,7 @@ rests_by rest step number entry = eqb entry.number number && ltb (gap_of step en
 -- D-12: the same of one of the ended numbers that are kept
 unfoldable pub is_resting : ℕ → ℕ → List Ended → ℕ → Bool
 is_resting rest step ended number = any (λ i. rests_by rest step number (ended_at ended i)) 0 (length ended)
+
+-- D-12: the same, with the ended numbers, the figure and the step handed over together
+abbrev pub rests_in : AtRest → ℕ → Bool
+rests_in at_rest = is_resting at_rest.rest at_rest.step at_rest.ended

@@ -3,7 +3,7 @@
 #![tactic(auto)]
 
 ghost use Rattle.std.specs.Prelude.{◌≡◌};
-ghost use Rattle.resting.specs.Rests.{none_ended, rests_by, is_resting};
+ghost use Rattle.resting.specs.Rests.{none_ended, rests_by, rests_in};
 
 // How many numbers can have ended and still be kept.
 pub const KEPT: usize = 160;
@@ -24,22 +24,31 @@ impl Ended {
     }
 }
 
-// Whether a number rests in this step because of this entry.
-#[tactic(auto, unfolding(crate::specs::Rests::rests_by))]
-fn rests_by(entry: Ended, rest: u16, step: u16, number: u8) -> bool
-    ensures { result ≡ rests_by rest step number entry }
-{
-    entry.number == number && wire::gap(step, entry.step) < rest
+// What says which numbers rest in a step: those that ended, for how many steps a number rests, and the step.
+#[derive(Clone, Copy)]
+pub struct AtRest {
+    pub ended: [Ended; 160],
+    pub rest: u16,
+    pub step: u16,
 }
 
-// Whether a number rests in this step. All entries are looked at: a machine judges several at once, and there is no branch to guess
-// wrong.
-pub fn is_resting(ended: [Ended; 160], rest: u16, step: u16, number: u8) -> bool
-    ensures { result ≡ is_resting rest step ended number }
-{
-    let mut rests = false;
-    for entry in &ended {
-        rests |= rests_by(*entry, rest, step, number);
+impl AtRest {
+    // Whether a number rests because of this entry.
+    #[tactic(auto, unfolding(crate::specs::Rests::rests_by))]
+    fn rests_by(&self, entry: Ended, number: u8) -> bool
+        ensures { result ≡ rests_by self.now.rest self.now.step number entry }
+    {
+        entry.number == number && wire::gap(self.step, entry.step) < self.rest
     }
-    rests
+
+    // Whether a number rests. All entries are looked at: a machine judges several at once, and there is no branch to guess wrong.
+    pub fn is_resting(&self, number: u8) -> bool
+        ensures { result ≡ rests_in self.now number }
+    {
+        let mut rests = false;
+        for entry in &self.ended {
+            rests |= self.rests_by(*entry, number);
+        }
+        rests
+    }
 }

@@ -3,7 +3,6 @@
 #![tactic(auto)]
 
 ghost use Rattle.std.specs.Prelude.{◌≡◌};
-ghost use Rattle.kit.specs.Put.{Poured};
 ghost use Rattle.outcomes.specs.Ends.{where_short};
 ghost use Rattle.desk.specs.Desks.{base_rest, accept_of, Made};
 ghost use Rattle.desk_output.specs.Outputs.{short_list_line};
@@ -11,7 +10,7 @@ ghost use Rattle.desk_output.specs.Outputs.{short_list_line};
 use desk::Desk;
 use outcomes::{End, Progress};
 use program::Program;
-use streams::{Output, Source, System};
+use streams::{Output, Source, Stopped, System};
 use wire::Refusal;
 
 fn main(rt: HostRuntime) {
@@ -19,11 +18,12 @@ fn main(rt: HostRuntime) {
         rt: &rt,
         program: Program::RunDesk,
     };
-    system.run(|_, source, progress| run(source, progress));
+    // what stopped it was told
+    system.run(|_, source, progress| run(source, progress).unwrap_or(()));
 }
 
 // Runs the desk to the input's end, or to the first read or write that fails.
-fn run(source: &Source, begun: Progress) {
+fn run(source: &Source, begun: Progress) -> Result<(), Stopped> {
     let system = source.system;
     let mut desk = Desk::fresh();
     let mut progress = begun;
@@ -32,23 +32,22 @@ fn run(source: &Source, begun: Progress) {
         match source.read_call(None, &mut bytes) {
             Ok(Some(list)) => {
                 progress = system.went_on(progress, frames::LENGTH + list.len());
-                if !take(system, &mut desk, list, lists) {
-                    return;
-                }
+                take(system, &mut desk, list, lists)?;
             }
             // no length is bare
             Ok(None) => unreachable!(),
             Err(end) => {
                 system.end_progress(progress);
-                show_end(system, end);
-                return;
+                return system.write(Output::Errors, at_end(end));
             }
         }
     }
+    Ok(())
 }
 
-// Hands one list to the desk and shows its answer. Answers whether that was written.
-fn take(system: System, desk: &mut Desk, list: &[u8], lists: u64) -> bool
+// Hands one list to the desk and shows its answer. That the desk was made is asked for, and is no invariant of `Desk`: `desk_writer::write`
+// takes any desk.
+fn take(system: System, desk: &mut Desk, list: &[u8], lists: u64) -> Result<(), Stopped>
     requires { Made desk.old }
     ensures { desk.new ≡ (accept_of base_rest desk.old list.now).desk }
 {
@@ -60,32 +59,26 @@ fn take(system: System, desk: &mut Desk, list: &[u8], lists: u64) -> bool
     }
 }
 
-fn show_table(system: System, desk: Desk) -> bool {
+fn show_table(system: System, desk: Desk) -> Result<(), Stopped> {
     let mut out = [0u8; 130];
     desk_output::put_table(desk, &mut out, 0);
     system.write(Output::Standard, &out)
 }
 
-fn show_refused(system: System, refusal: Refusal, lists: u64) -> bool {
+fn show_refused(system: System, refusal: Refusal, lists: u64) -> Result<(), Stopped> {
     let mut line = [0u8; 64];
     let n = desk_output::put_refused(u8::from(refusal), lists, &mut line, 0);
     system.write(Output::Errors, &line[..n])
 }
 
-// Puts the line on a list that is not whole, where the input has ended inside one; after a read that failed, nothing. One function for this
-// program and `read_signals` would be no shorter: it would be lent `put_short` of each as a closure, and a contract on what that puts.
-fn put_end(end: End, line: &mut [u8]) -> usize
-    ensures { Poured line.old 0 (where_short end short_list_line) line.new result }
+// What is said at the end: the line on a list that is not whole, where the input has ended inside one; after a read that failed, nothing.
+#[tactic(auto, unfolding(desk_output::specs::Outputs::short_list_line))]
+fn at_end(end: End) -> &'static [u8]
+    ensures { result.now ≡ where_short end short_list_line }
 {
     if outcomes::is_short(end) {
-        desk_output::put_short(line, 0)
+        desk_output::SHORT_LIST
     } else {
-        0
+        b""
     }
-}
-
-fn show_end(system: System, end: End) {
-    let mut line = [0u8; 11];
-    let n = put_end(end, &mut line);
-    system.write(Output::Errors, &line[..n]);
 }

@@ -73,10 +73,12 @@ pub fn put_line(updated: Updated, line: &mut Sheet<'_>)
     line.put_words(&bytes[..end]);
 }
 
-// `short call` and a line feed.
+// What is said where the input ends inside a call.
+pub const SHORT_CALL: &[u8] = b"short call\n";
+
 #[tactic(auto, unfolding(crate::specs::Lines::short_call_line))]
 pub fn put_short(line: &mut Sheet<'_>)
     ensures { line.new ≡ put_on short_call_line line.old }
 {
-    line.put_words(b"short call\n");
+    line.put_words(SHORT_CALL);
 }

@@ -1,5 +1,6 @@
-// The words for the states of signals on a page, each with a blank before it. Each stands in a call of its own, so that its bytes are packed
-// when this is compiled.
+// The words for the states of signals on a page, each with a blank before it. Each stands in a call of its own, so that its bytes are
+// packed when this is compiled; a `Display` would write them through a formatter, byte by byte. Three functions of one shape, and not
+// one: it would take the words of a state from a trait, whose three impls are what stands here.
 ghost use Rattle.std.specs.Prelude.{◌≡◌};
 ghost use Rattle.page.specs.Pages.{room_for, PagedOn};
 ghost use Rattle.page.specs.Words.{bytes_of_word};

@@ -4,6 +4,7 @@ use crate::system::System;
 use program::{Argument, Asked, Doing};
 use std::env::{Env, FillError};
 use std::io::Error;
+use text::Sheet;
 
 // The system's numbers for an argument that is not there, and for a name that is too long.
 const NOT_THERE: i32 = 22;
@@ -45,15 +46,19 @@ impl System<'_> {
         }
     }
 
+    #[tactic(auto, unfolding(text::specs::Putting::put_on))]
     fn say_answer(self, asked: Asked, word: &[u8]) {
         let mut out = [0u8; 4224];
-        let k = program::put_answer(self.program, asked.task, word, &mut out, 0);
+        let mut sheet = Sheet::on(&mut out, 0);
+        program::put_answer(self.program, asked.task, word, &mut sheet);
+        let k = sheet.at;
         let output = if program::is_complaint(asked.task) {
             Output::Errors
         } else {
             Output::Standard
         };
-        self.write(output, &out[..k]);
+        // it is the last thing that is done
+        let _ = self.write(output, &out[..k]);
     }
 }
 

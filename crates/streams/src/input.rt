@@ -12,6 +12,7 @@ use std::env::Env;
 use std::fs::{File, Files, OpenOptions};
 use std::io;
 use std::io::{Error, IsTerminal, Read};
+use text::Sheet;
 
 // What is read: standard input, a file, or nothing any more, where the place in the input was lost.
 #[derive(Drop)]
@@ -70,11 +71,15 @@ impl<'a> System<'a> {
 
 impl Source<'_> {
     // Says what is awaited, where the input is a terminal.
+    #[tactic(auto, unfolding(text::specs::Putting::put_on))]
     pub fn say_awaiting(&self) {
         if self.is_terminal() {
             let mut line = [0u8; 128];
-            let n = program::put_awaiting(self.system.program, &mut line, 0);
-            self.system.write(Output::Errors, &line[..n]);
+            let mut sheet = Sheet::on(&mut line, 0);
+            program::put_awaiting(self.system.program, &mut sheet);
+            let n = sheet.at;
+            // a line that cannot be written is no loss: the input is read all the same
+            let _ = self.system.write(Output::Errors, &line[..n]);
         }
     }
 

@@ -13,5 +13,5 @@ mod telling;
 mod work;
 
 pub use input::{Opened, Source};
-pub use output::Output;
+pub use output::{Output, Stopped};
 pub use system::System;

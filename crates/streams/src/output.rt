@@ -13,13 +13,17 @@ pub enum Output {
     Errors,
 }
 
+// A write failed, which was told, so that there is no more to be done than to stop.
+#[derive(Clone, Copy)]
+pub struct Stopped;
+
 impl System<'_> {
-    // Writes all of these bytes and answers true, or stops at the first write that fails, tells it, and answers false.
-    pub fn write(self, output: Output, bytes: &[u8]) -> bool {
+    // Writes all of these bytes, or stops at the first write that fails, and tells it.
+    pub fn write(self, output: Output, bytes: &[u8]) -> Result<(), Stopped> {
         let mut rest = bytes;
         for _ in 0..u64::MAX {
             if rest.is_empty() {
-                return true;
+                return Ok(());
             }
             let tried = match output {
                 Output::Standard => self.rt.stdout().write_some(rest),
@@ -27,11 +31,11 @@ impl System<'_> {
             };
             if outcomes::is_failed(state_of(&tried)) {
                 self.tell_write(output, tried.err());
-                return false;
+                return Err(Stopped);
             }
             rest = &rest[tried.unwrap_or(0)..];
         }
-        false
+        Err(Stopped)
     }
 
     // Tells of a write that failed. The system has no reason for one that took nothing.

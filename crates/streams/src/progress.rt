@@ -9,6 +9,7 @@ use program::Asked;
 use std::fs::{File, Files, OpenOptions};
 use std::io;
 use std::io::{IsTerminal, Read, Seek, SeekFrom};
+use text::Sheet;
 
 impl Source<'_> {
     // Whether it is shown: it was asked for, error output is a terminal, and how many bytes the input still has is known and not 0.
@@ -83,9 +84,12 @@ impl System<'_> {
     }
 
     // A line that cannot be written is no loss: the work goes on.
+    #[tactic(auto, unfolding(text::specs::Putting::put_on))]
     fn show(self, progress: Progress) {
         let mut line = [0u8; 64];
-        let n = progress.put_line(&mut line, 0);
+        let mut sheet = Sheet::on(&mut line, 0);
+        progress.put_line(&mut sheet);
+        let n = sheet.at;
         self.say(&line[..n]);
     }
 }

@@ -4,12 +4,16 @@ ghost use Rattle.std.specs.Prelude.{◌≤◌};
 use crate::system::System;
 use program::Doing;
 use std::io::{Error, ErrorKind, Write};
+use text::Sheet;
 
 impl System<'_> {
     // A line: the program, what it was doing, and the system's reason.
+    #[tactic(auto, unfolding(text::specs::Putting::put_on))]
     pub(crate) fn tell(self, doing: Doing, name: &[u8], reason: &Error) {
         let mut line = [0u8; 4224];
-        let n = program::put_doing(self.program, doing, name, &mut line, 0);
+        let mut sheet = Sheet::on(&mut line, 0);
+        program::put_doing(self.program, doing, name, &mut sheet);
+        let n = sheet.at;
         let mut text = [0u8; 128];
         let k = put_reason(reason, &mut text);
         self.say(&line[..n]);

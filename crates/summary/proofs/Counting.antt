@@ -11,8 +11,9 @@ use borrow.Author.Tests.{eqb-true, eqb-false, eq-eqb, ne_eqb}
 use Rattle.kit.proofs.Cases.{on}
 use Rattle.kit.proofs.Each.{length-one-each, one-each_at}
 use Rattle.listener.specs.Answers.{Told}
-use Rattle.summary.specs.Counts.{took_table, was_repeat, was_refused, refused_under, how_many_told, first_from, first_told, up_to_most, for_each_number, tally_of}
-use Rattle.summary.specs.Tallies.{one_more, known_or, more_if, store_if, counted, counted_all}
+use Rattle.summary.specs.Counts.{took_table, was_repeat, was_refused, refused_under, how_many_told, first_from, first_told, up_to_most, for_each_number, none_refused, refusals_told, tally_of}
+use Rattle.summary.specs.Tallies.{one_more, known_or, more_if, refused_more, store_if, counted, counted_all}
+use Rattle.summary.specs.declared.Refusals.{Refusals}
 
 -- ---- one more at the end
 
@@ -66,45 +67,40 @@ module _ (such : Told → Bool) where
 
 -- ---- a row of sixteen
 
-pub row-long : (of : ℕ → ℕ) → length (for_each_number of) ≡ 16
-unfolding for_each_number
-row-long of = length-one-each of 16
+module _ {A : Type 0} where
+  pub row-long : (of : ℕ → A) → length (for_each_number of) ≡ 16
+  unfolding for_each_number
+  row-long of = length-one-each of 16
 
-pub row_at : (of : ℕ → ℕ) (number : ℕ) → number < 16 → get_or (for_each_number of) number 0 ≡ of number
-unfolding for_each_number
-row_at of number inside = one-each_at of 16 0 number inside
+  pub row_at : (other : A) (of : ℕ → A) (number : ℕ) → number < 16 → get_or (for_each_number of) number other ≡ of number
+  unfolding for_each_number
+  row_at other of number inside = one-each_at of 16 other number inside
 
-module _ (of next : ℕ → ℕ) where
+module _ {A : Type 0} (other : A) (of next : ℕ → A) where
   row_same : ((number : ℕ) → of number ≡ next number) → for_each_number of ≡ for_each_number next
   row_same same =
-      ext_get_or 0 (for_each_number of) (for_each_number next) (row-long of ∙ sym (row-long next))
+      ext_get_or other (for_each_number of) (for_each_number next) (row-long of ∙ sym (row-long next))
       (λ i p.
       let inside : i < 16 = omega (arith, row-long of) in
-      row_at of i inside ∙ (same i ∙ sym (row_at next i inside)))
+      row_at other of i inside ∙ (same i ∙ sym (row_at other next i inside)))
 
   -- one of them is stored anew; past the end nothing is
-  row-set : (at : ℕ) (value : ℕ) → (at < 16 → value ≡ next at) → ((number : ℕ) → (number ≡ at → ⊥) → of number ≡ next number) → set (for_each_number of) at value ≡ for_each_number next
+  row-set : (at : ℕ) (value : A) → (at < 16 → value ≡ next at) → ((number : ℕ) → (number ≡ at → ⊥) → of number ≡ next number) → set (for_each_number of) at value ≡ for_each_number next
   row-set at value own others =
-      ext_get_or 0 (set (for_each_number of) at value) (for_each_number next) (length-set (for_each_number of) at value ∙ (row-long of ∙ sym (row-long next)))
+      ext_get_or other (set (for_each_number of) at value) (for_each_number next) (length-set (for_each_number of) at value ∙ (row-long of ∙ sym (row-long next)))
       (λ i p.
       let inside : i < 16 = omega (arith, length-set (for_each_number of) at value, row-long of) in
       on (eqb i at)
       (λ e.
       let here : i ≡ at = eqb-true i at e in
-      ap (λ k. get_or (set (for_each_number of) at value) k 0) here
-      ∙ (get_or-set_same (for_each_number of) at value 0 (omega (arith, row-long of))
-      ∙ (own (omega arith) ∙ (ap next (sym here) ∙ sym (row_at next i inside)))))
+      ap (λ k. get_or (set (for_each_number of) at value) k other) here
+      ∙ (get_or-set_same (for_each_number of) at value other (omega (arith, row-long of))
+      ∙ (own (omega arith) ∙ (ap next (sym here) ∙ sym (row_at other next i inside)))))
       (λ e.
       let there = eqb-false i at e in
-      get_or-set_other (for_each_number of) at i value 0 there ∙ (row_at of i inside ∙ (others i there ∙ sym (row_at next i inside)))))
+      get_or-set_other (for_each_number of) at i value other there ∙ (row_at other of i inside ∙ (others i there ∙ sym (row_at other next i inside)))))
 
 -- ---- one answer more
-
-abbrev refused_of : List Told → ℕ → ℕ
-refused_of told number = up_to_most (how_many_told (refused_under number) told)
-
-abbrev first_of : List Told → ℕ → ℕ
-first_of told number = up_to_most (first_told (refused_under number) told)
 
 module _ (before : List Told) (told : Told) where
   abbrev all : List Told
@@ -124,29 +120,35 @@ module _ (before : List Told) (told : Told) where
   no_number : was_refused told ≡ false → (number : ℕ) → refused_under number told ≡ false
   no_number e number = ap (λ b. b && eqb told.number number) e
 
-  -- so the rows are stored where it was refused, and else stay
-  refused-more : store_if (was_refused told) (for_each_number (refused_of before)) told.number (one_more (get_or (for_each_number (refused_of before)) told.number 0)) ≡ for_each_number (refused_of all)
-  refused-more =
-      on (was_refused told)
-      (λ e.
-      rw e
-      (row-set (refused_of before) (refused_of all) told.number (one_more (get_or (for_each_number (refused_of before)) told.number 0))
-      (λ inside. ap one_more (row_at (refused_of before) told.number inside) ∙ count_yes (refused_under told.number) before told (own-number e))
-      (λ number there. count_no (refused_under number) before told (other-number number there))))
-      (λ e. rw e (row_same (refused_of before) (refused_of all) (λ number. count_no (refused_under number) before told (no_number e number))))
-
   abbrev place : ℕ
   place = one_more (up_to_most (length before))
 
-  places-more : store_if (was_refused told) (for_each_number (first_of before)) told.number (known_or (get_or (for_each_number (first_of before)) told.number 0) place) ≡ for_each_number (first_of all)
-  places-more =
+  -- under the number of its own one more, and under another the same
+  refusals_more : (number : ℕ) → refused_under number told ≡ true → refused_more (refusals_told before number) place ≡ refusals_told all number
+  refusals_more number e =
+      let counts = count_yes (refused_under number) before told e in
+      let places = first-yes (refused_under number) before told e in
+      λ i. record { count = counts i; first = places i }
+
+  refusals_stay : (number : ℕ) → refused_under number told ≡ false → refusals_told before number ≡ refusals_told all number
+  refusals_stay number e =
+      let counts = count_no (refused_under number) before told e in
+      let places = first_no (refused_under number) before told e in
+      λ i. record { count = counts i; first = places i }
+
+  -- so the row is stored where it was refused, and else stays
+  row-more : store_if (was_refused told) (for_each_number (refusals_told before)) told.number
+      (refused_more (get_or (for_each_number (refusals_told before)) told.number none_refused) place)
+      ≡ for_each_number (refusals_told all)
+  row-more =
+      let known = get_or (for_each_number (refusals_told before)) told.number none_refused in
       on (was_refused told)
       (λ e.
       rw e
-      (row-set (first_of before) (first_of all) told.number (known_or (get_or (for_each_number (first_of before)) told.number 0) place)
-      (λ inside. ap (λ n. known_or n place) (row_at (first_of before) told.number inside) ∙ first-yes (refused_under told.number) before told (own-number e))
-      (λ number there. first_no (refused_under number) before told (other-number number there))))
-      (λ e. rw e (row_same (first_of before) (first_of all) (λ number. first_no (refused_under number) before told (no_number e number))))
+      (row-set none_refused (refusals_told before) (refusals_told all) told.number (refused_more known place)
+      (λ inside. ap (λ (r : Refusals). refused_more r place) (row_at none_refused (refusals_told before) told.number inside) ∙ refusals_more told.number (own-number e))
+      (λ number there. refusals_stay number (other-number number there))))
+      (λ e. rw e (row_same none_refused (refusals_told before) (refusals_told all) (λ number. refusals_stay number (no_number e number))))
 
   -- the counts of what was told, and one answer more
   pub counted_next : counted (tally_of before) told ≡ tally_of all
@@ -154,7 +156,7 @@ module _ (before : List Told) (told : Told) where
   counted_next =
       let tables = count-more took_table before told in
       let repeats = count-more was_repeat before told in
-      λ i. record { telegrams = telegrams-more i; tables = tables i; repeats = repeats i; refused = refused-more i; first = places-more i }
+      λ i. record { telegrams = telegrams-more i; tables = tables i; repeats = repeats i; refused = row-more i }
 
 -- and all answers, one after another
 pub counted_all_lem : (before more : List Told) → counted_all (tally_of before) more ≡ tally_of (before ++ more)

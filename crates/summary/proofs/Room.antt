@@ -1,6 +1,6 @@
 -- Every summary has room in a buffer of 1,536 bytes: it has at most 1,314.
 use Prim.Native.Nat.{ℕ, zero, suc, ◌+◌, ◌^◌, ◌<◌, ◌≤◌}
-use mathlib.Core.Path.{◌≡◌}
+use mathlib.Core.Path.{◌≡◌, subst⁻¹}
 use mathlib.Core.Bool.{Bool}
 use mathlib.Core.List.{List, [], ◌∷◌, ◌++◌}
 use lib.Dec.{eqb, ltb}
@@ -24,22 +24,29 @@ use Rattle.lister.specs.Hearings.{telegrams_in}
 use Rattle.lister.specs.Pieces.{most_tables, after_kept, MadeByPieces}
 use Rattle.lister.specs.declared.Lister.{Lister}
 use Rattle.lister.proofs.Kept.{made_kept}
-use Rattle.summary.specs.Counts.{told_through, took_table, was_repeat, was_refused, refused_under, how_many_told, first_told, up_to_most, for_each_number, tally_of}
+use Rattle.summary.specs.Counts.{told_through, took_table, was_repeat, was_refused, for_each_number, none_refused, refusals_told, tally_of}
 use Rattle.summary.specs.Rooms.{Countable, summary_room}
 use Rattle.summary.specs.Summaries.{with_number, telegrams_word, tables_word, repeats_word, count_word, place_words, unfinished_words, packets_word, tail_words, bytes_word, count_line, count_lines, refusal_line, refusal_part, refusal_at, refusal_parts, packet_held, packet_part, packet_at, packet_parts, unfinished_line, unfinished_part, tail_part, summary_of}
-use Rattle.summary.specs.Tallies.{one_more, known_or, more_if, store_if, counted, counted_all, counted_piece}
+use Rattle.summary.specs.Tallies.{one_more, known_or, more_if, refused_more, store_if, counted, counted_all, counted_piece}
+use Rattle.summary.specs.declared.Refusals.{Refusals}
 use Rattle.summary.specs.declared.Tally.{Tally}
 use Rattle.summary.proofs.Counting.{row-long, row_at}
 use Rattle.summary.proofs.Steps.{made-below}
 
 -- ---- the counts are such that a number of 64 bits packet_held them
 
-pub row_fits : (of : ℕ → ℕ) (i : ℕ) → get_or (for_each_number (λ number. up_to_most (of number))) i 0 ≤ most_tables
-row_fits of i =
+pub row_fits : (Fits : Refusals → Type 0) (of : ℕ → Refusals) → ((number : ℕ) → Fits (of number)) → Fits none_refused → (i : ℕ) → Fits (get_or (for_each_number of) i none_refused)
+row_fits Fits of each none i =
     on (ltb i 16)
-    (λ inside. omega (arith, row_at (λ number. up_to_most (of number)) i (ltb-true i 16 inside)))
-    (λ past.
-    omega (arith, get_or-eq_default (for_each_number (λ number. up_to_most (of number))) 0 {n = i} (omega (arith, row-long (λ number. up_to_most (of number)), ltb-false i 16 past))))
+    (λ inside. subst⁻¹ Fits (row_at none_refused of i (ltb-true i 16 inside)) (each i))
+    (λ past. subst⁻¹ Fits (get_or-eq_default (for_each_number of) none_refused {n = i} (omega (arith, row-long of, ltb-false i 16 past))) none)
+
+-- what a row's places say of the counts and of the places
+abbrev pub CountFits : Refusals → Type 0
+CountFits refused = refused.count ≤ most_tables
+
+abbrev pub FirstFits : Refusals → Type 0
+FirstFits refused = refused.first ≤ most_tables
 
 pub tally-fits : (told : List Told) → Countable (tally_of told)
 unfolding tally_of
@@ -48,36 +55,38 @@ tally-fits told =
       telegrams = omega arith;
       tables = omega arith;
       repeats = omega arith;
-      refused = row_fits (λ number. how_many_told (refused_under number) told);
-      first = row_fits (λ number. first_told (refused_under number) told);
+      refused = row_fits CountFits (refusals_told told) (λ number. omega arith) (omega arith);
+      first = row_fits FirstFits (refusals_told told) (λ number. omega arith) (omega arith);
     }
 
 first_fits : (known place : ℕ) → known ≤ most_tables → place ≤ most_tables → known_or known place ≤ most_tables
 first_fits known place a b = on (eqb known 0) (λ e. rw e b) (λ e. rw e a)
 
-one-fits : (count : ℕ) → count ≤ most_tables → (i : ℕ) → i < length (count ∷ []) → get_or (count ∷ []) i 0 ≤ most_tables
-one-fits count most zero p = most
-one-fits count most (suc i) p = omega arith
+one-fits : (Fits : Refusals → Type 0) (value : Refusals) → Fits value → (i : ℕ) → i < length (value ∷ []) → Fits (get_or (value ∷ []) i none_refused)
+one-fits Fits value own zero p = own
+one-fits Fits value own (suc i) p = absurd (omega arith)
 
 more-fits : (so : Bool) (count : ℕ) → count ≤ most_tables → more_if so count ≤ most_tables
 more-fits so count most = on so (λ e. rw e (omega arith)) (λ e. rw e most)
 
-store_fits : (so : Bool) (row : List ℕ) (at number : ℕ) → ((i : ℕ) → get_or row i 0 ≤ most_tables) → number ≤ most_tables → (i : ℕ) → get_or (store_if so row at number) i 0 ≤ most_tables
-store_fits so row at number fits most i =
-    on so (λ e. rw e (sets-each 0 (λ n. n ≤ most_tables) (number ∷ []) row at (one-fits number most) fits i)) (λ e. rw e (fits i))
+store_fits : (Fits : Refusals → Type 0) (so : Bool) (row : List Refusals) (at : ℕ) (value : Refusals) → ((i : ℕ) → Fits (get_or row i none_refused)) → Fits value
+    → (i : ℕ) → Fits (get_or (store_if so row at value) i none_refused)
+store_fits Fits so row at value fits own i =
+    on so (λ e. rw e (sets-each none_refused Fits (value ∷ []) row at (one-fits Fits value own) fits i)) (λ e. rw e (fits i))
 
 pub counted-fits : (tally : Tally) → Countable tally → (told : Told) → Countable (counted tally told)
 unfolding counted
 counted-fits tally fits told =
     let number = told.number in
-    let known = get_or tally.first number 0 in
+    let known = get_or tally.refused number none_refused in
     let place = one_more tally.telegrams in
+    let more = refused_more known place in
     record {
       telegrams = omega arith;
       tables = more-fits (took_table told) tally.tables fits.tables;
       repeats = more-fits (was_repeat told) tally.repeats fits.repeats;
-      refused = store_fits (was_refused told) tally.refused number (one_more (get_or tally.refused number 0)) fits.refused (omega arith);
-      first = store_fits (was_refused told) tally.first number (known_or known place) fits.first (first_fits known place (fits.first number) (omega arith));
+      refused = store_fits CountFits (was_refused told) tally.refused number more fits.refused (omega arith);
+      first = store_fits FirstFits (was_refused told) tally.refused number more fits.first (first_fits known.first place (fits.first number) (omega arith));
     }
 
 all-fits : (tally : Tally) → Countable tally → (told : List Told) → Countable (counted_all tally told)
@@ -130,13 +139,15 @@ part-short : (number count place : ℕ) → number < 100 → count ≤ most_tabl
 unfolding refusal_part
 part-short number count place n c p = on (eqb count 0) (λ e. rw e (omega arith)) (λ e. rw e (refusal-short number count place n c p))
 
-parts_short : (tally : Tally) → Countable tally → length (refusal_parts tally.refused tally.first) ≤ 1168
+parts_short : (tally : Tally) → Countable tally → length (refusal_parts tally.refused) ≤ 1168
 unfolding refusal_parts
 parts_short tally fits =
     omega (
       arith,
-      length-each-within (refusal_at tally.refused tally.first) 73 0 16
-          (λ i p. part-short i (get_or tally.refused i 0) (get_or tally.first i 0) (omega arith) (fits.refused i) (fits.first i)),
+      length-each-within (refusal_at tally.refused) 73 0 16
+          (λ i p.
+          let refused = get_or tally.refused i none_refused in
+          part-short i refused.count refused.first (omega arith) (fits.refused i) (fits.first i)),
     )
 
 packet-short : (held : Bool) (packet : ℕ) → packet < 10 → length (packet_part held packet) ≤ 2
@@ -176,7 +187,7 @@ module _ (tally : Tally) (fits : Countable tally) {lister : Lister} (made : Made
   unfolding summary_of
   summary-short =
       let counts = count_lines tally.telegrams tally.tables tally.repeats in
-      let refusals = refusal_parts tally.refused tally.first in
+      let refusals = refusal_parts tally.refused in
       let unfinished = unfinished_part lister.listener.hand in
       let end = tail_part lister.kept in
       given (made_kept made)

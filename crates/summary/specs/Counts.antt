@@ -5,6 +5,7 @@ use Rattle.listener.specs.Answers.{Outcome, a_refusal, a_repeat, a_part, a_table
 use Rattle.listener.specs.declared.Listener.{Listener}
 use Rattle.lister.specs.Hearings.{heard_by}
 use Rattle.lister.specs.Pieces.{most_tables}
+use Rattle.summary.specs.declared.Refusals.{Refusals}
 use Rattle.summary.specs.declared.Tally.{Tally}
 
 -- W-04: what a listener tells of telegrams, the oldest first
@@ -66,8 +67,20 @@ up_to_most count = min count most_tables
 abbrev pub refusal_numbers : ℕ
 refusal_numbers = 16
 
-unfoldable pub for_each_number : (ℕ → ℕ) → List ℕ
+unfoldable pub for_each_number : {A : Type 0} → (ℕ → A) → List A
 for_each_number of = each (λ number. of number ∷ []) 0 refusal_numbers
+
+-- nothing was refused under a number
+abbrev pub none_refused : Refusals
+none_refused = record { count = 0; first = 0 }
+
+-- how many were refused under it, and where the first of them stands
+abbrev pub refusals_told : List Told → ℕ → Refusals
+refusals_told told number =
+    record {
+      count = up_to_most (how_many_told (refused_under number) told);
+      first = up_to_most (first_told (refused_under number) told);
+    }
 
 -- the counts of what was told
 unfoldable pub tally_of : List Told → Tally
@@ -76,6 +89,5 @@ tally_of told =
       telegrams = up_to_most (length told);
       tables = up_to_most (how_many_told took_table told);
       repeats = up_to_most (how_many_told was_repeat told);
-      refused = for_each_number (λ number. up_to_most (how_many_told (refused_under number) told));
-      first = for_each_number (λ number. up_to_most (first_told (refused_under number) told));
+      refused = for_each_number (refusals_told told);
     }

@@ -1,6 +1,7 @@
 -- The size of a buffer that has room for every summary; proofs/Room.antt proves it.
 use Rattle.std.specs.Prelude.{ℕ, ◌≤◌, get_or}
 use Rattle.lister.specs.Pieces.{most_tables}
+use Rattle.summary.specs.Counts.{none_refused}
 use Rattle.summary.specs.declared.Tally.{Tally}
 
 abbrev pub summary_room : ℕ
@@ -11,5 +12,5 @@ pub record Countable (tally : Tally) : Type 0 where
   pub telegrams : tally.telegrams ≤ most_tables
   pub tables : tally.tables ≤ most_tables
   pub repeats : tally.repeats ≤ most_tables
-  pub refused : (number : ℕ) → get_or tally.refused number 0 ≤ most_tables
-  pub first : (number : ℕ) → get_or tally.first number 0 ≤ most_tables
+  pub refused : (number : ℕ) → (get_or tally.refused number none_refused).count ≤ most_tables
+  pub first : (number : ℕ) → (get_or tally.refused number none_refused).first ≤ most_tables

@@ -8,7 +8,8 @@ use Rattle.text.specs.Words.{refused_word}
 use Rattle.telegram.specs.Tables.{packets, first_packet}
 use Rattle.hand.specs.declared.Hand.{Hand}
 use Rattle.lister.specs.declared.Lister.{Lister}
-use Rattle.summary.specs.Counts.{refusal_numbers}
+use Rattle.summary.specs.Counts.{refusal_numbers, none_refused}
+use Rattle.summary.specs.declared.Refusals.{Refusals}
 use Rattle.summary.specs.declared.Tally.{Tally}
 
 -- words, and a number after them
@@ -59,13 +60,13 @@ refusal_line number count place = with_number refused_word number ++ (with_numbe
 unfoldable pub refusal_part : ℕ → ℕ → ℕ → List ℕ
 refusal_part number count place = cond (eqb count 0) [] (refusal_line number count place)
 
--- that of one number, of the row of counts and the row of places
-abbrev pub refusal_at : List ℕ → List ℕ → ℕ → List ℕ
-refusal_at refused first number = refusal_part number (get_or refused number 0) (get_or first number 0)
+-- that of one number, of the row of counts and places
+abbrev pub refusal_at : List Refusals → ℕ → List ℕ
+refusal_at refused number = refusal_part number (get_or refused number none_refused).count (get_or refused number none_refused).first
 
 -- for each number, ascending
-unfoldable pub refusal_parts : List ℕ → List ℕ → List ℕ
-refusal_parts refused first = each (refusal_at refused first) 0 refusal_numbers
+unfoldable pub refusal_parts : List Refusals → List ℕ
+refusal_parts refused = each (refusal_at refused) 0 refusal_numbers
 
 -- L-03: packet k of the five is held
 abbrev pub packet_held : List Bool → ℕ → Bool
@@ -99,4 +100,4 @@ tail_part kept = cond (eqb kept 0) [] (with_number tail_words kept ++ bytes_word
 unfoldable pub summary_of : Tally → Lister → List ℕ
 summary_of tally lister =
     count_lines tally.telegrams tally.tables tally.repeats
-    ++ (refusal_parts tally.refused tally.first ++ (unfinished_part lister.listener.hand ++ tail_part lister.kept))
+    ++ (refusal_parts tally.refused ++ (unfinished_part lister.listener.hand ++ tail_part lister.kept))

@@ -5,7 +5,8 @@ use Rattle.listener.specs.Answers.{Told}
 use Rattle.lister.specs.Hearings.{telegrams_in}
 use Rattle.lister.specs.Pieces.{after_kept, take_of}
 use Rattle.lister.specs.declared.Lister.{Lister}
-use Rattle.summary.specs.Counts.{told_through, took_table, was_repeat, was_refused, up_to_most}
+use Rattle.summary.specs.Counts.{told_through, took_table, was_repeat, was_refused, up_to_most, none_refused}
+use Rattle.summary.specs.declared.Refusals.{Refusals}
 use Rattle.summary.specs.declared.Tally.{Tally}
 
 -- Q-104: one more
@@ -16,12 +17,16 @@ one_more count = up_to_most (count + 1)
 abbrev pub known_or : ℕ → ℕ → ℕ
 known_or first place = cond (eqb first 0) place first
 
--- one more, and a number stored in a row, where this is so; past the end of a row nothing is stored
+-- one refused more, whose place is this one
+abbrev pub refused_more : Refusals → ℕ → Refusals
+refused_more refused place = record { count = one_more refused.count; first = known_or refused.first place }
+
+-- one more, and a value stored in a row, where this is so; past the end of a row nothing is stored
 abbrev pub more_if : Bool → ℕ → ℕ
 more_if so count = cond so (one_more count) count
 
-abbrev pub store_if : Bool → List ℕ → ℕ → ℕ → List ℕ
-store_if so row at number = cond so (set row at number) row
+abbrev pub store_if : {A : Type 0} → Bool → List A → ℕ → A → List A
+store_if so row at value = cond so (set row at value) row
 
 -- C-12: one telegram more, and one more of what it was: a table, a repeat, or refused under its number, with its place where none is known
 unfoldable pub counted : Tally → Told → Tally
@@ -30,8 +35,9 @@ counted tally told =
       telegrams = one_more tally.telegrams;
       tables = more_if (took_table told) tally.tables;
       repeats = more_if (was_repeat told) tally.repeats;
-      refused = store_if (was_refused told) tally.refused told.number (one_more (get_or tally.refused told.number 0));
-      first = store_if (was_refused told) tally.first told.number (known_or (get_or tally.first told.number 0) (one_more tally.telegrams));
+      refused =
+          store_if (was_refused told) tally.refused told.number
+          (refused_more (get_or tally.refused told.number none_refused) (one_more tally.telegrams));
     }
 
 -- one after another

@@ -17,17 +17,22 @@ use listener::Answer;
 use lister::Lister;
 use telegram::LENGTH;
 
-// How many telegrams, tables and repeats there were; for each number how many telegrams were refused under it, and the place of the
-// first of them, counted from 1, or 0 where there was none. Refusals have numbers up to 15. A count stays at the greatest number that it
-// can hold. Two arrays, and not one of pairs: `count` and `put` take whatever they hold, and a place without a count is such a record.
+// How many telegrams were refused under a number, and the place of the first of them, counted from 1, or 0 where there was none. No Option
+// of a place: `Tally::count` and `put` take whatever a record holds, and a count without a place is such a record.
+#[derive(Clone, Copy)]
+pub struct Refusals {
+    pub count: u64,
+    pub first: u64,
+}
+
+// How many telegrams, tables and repeats there were, and for each number what was refused under it. Refusals have numbers up to 15. A count
+// stays at the greatest number that it can hold.
 #[derive(Clone, Copy)]
 pub struct Tally {
     pub telegrams: u64,
     pub tables: u64,
     pub repeats: u64,
-    // two rows, with 0 for no place: `tally_of` and `Countable` (specs/) say what each row is
-    pub refused: [u64; 16],
-    pub first: [u64; 16],
+    pub refused: [Refusals; 16],
 }
 
 impl Tally {
@@ -40,8 +45,7 @@ impl Tally {
             telegrams: 0,
             tables: 0,
             repeats: 0,
-            refused: [0u64; 16],
-            first: [0u64; 16],
+            refused: [Refusals { count: 0, first: 0 }; 16],
         }
     }
 
@@ -95,10 +99,11 @@ fn refuse(mut tally: Tally, number: u8) -> Tally
     tally.telegrams = tally.telegrams.saturating_add(1);
     let n = number as usize;
     if n < tally.refused.len() {
-        tally.refused[n] = tally.refused[n].saturating_add(1);
-        if tally.first[n] == 0 {
-            tally.first[n] = tally.telegrams;
-        }
+        let Refusals { count, first } = tally.refused[n];
+        tally.refused[n] = Refusals {
+            count: count.saturating_add(1),
+            first: if first == 0 { tally.telegrams } else { first },
+        };
     }
     tally
 }
@@ -129,34 +134,34 @@ fn put_counts(tally: &Tally, out: &mut [u8], at: usize) -> usize
 }
 
 // `refused R: N, first at telegram P`.
-fn put_refused(number: u64, count: u64, place: u64, out: &mut [u8], at: usize) -> usize
-    ensures { Poured out.old at (refusal_line number count place) out.new result }
+fn put_refused(number: u64, refused: Refusals, out: &mut [u8], at: usize) -> usize
+    ensures { Poured out.old at (refusal_line number refused.count refused.first) out.new result }
 {
     let second = put_numbered(b"refused ", number, out, at);
-    let third = put_numbered(b": ", count, out, second);
-    let fourth = put_numbered(b", first at telegram ", place, out, third);
+    let third = put_numbered(b": ", refused.count, out, second);
+    let fourth = put_numbered(b", first at telegram ", refused.first, out, third);
     text::put_words(out, fourth, b"\n")
 }
 
 // That line where some are refused under the number.
 #[tactic(auto, unfolding(crate::specs::Summaries::refusal_part))]
-fn put_refusal(number: u64, count: u64, place: u64, out: &mut [u8], at: usize) -> usize
-    ensures { Poured out.old at (refusal_part number count place) out.new result }
+fn put_refusal(number: u64, refused: Refusals, out: &mut [u8], at: usize) -> usize
+    ensures { Poured out.old at (refusal_part number refused.count refused.first) out.new result }
 {
-    if count == 0 {
+    if refused.count == 0 {
         at.min(out.len())
     } else {
-        put_refused(number, count, place, out, at)
+        put_refused(number, refused, out, at)
     }
 }
 
 // For each number, ascending.
 fn put_refusals(tally: &Tally, out: &mut [u8], at: usize) -> usize
-    ensures { Poured out.old at (refusal_parts tally.now.refused tally.now.first) out.new result }
+    ensures { Poured out.old at (refusal_parts tally.now.refused) out.new result }
 {
     let mut next = at.min(out.len());
-    for (number, count) in tally.refused.iter().enumerate() {
-        next = put_refusal(number as u64, *count, tally.first[number], out, next);
+    for (number, refused) in tally.refused.iter().enumerate() {
+        next = put_refusal(number as u64, *refused, out, next);
     }
     next
 }

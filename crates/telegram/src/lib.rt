@@ -3,10 +3,12 @@
 // telegram_writer have the code.
 #![tactic(auto)]
 
-ghost use Rattle.std.specs.Prelude.{◌≡◌};
+ghost use Rattle.std.specs.Prelude.{◌≤◌, ◌≡◌};
 ghost use Rattle.telegram.specs.Tables.{table_slot, first_slot, four_of};
+ghost use Rattle.telegram.specs.Telegrams.{packet_in, step_in};
 
 use condition::Slot;
+use wire::STEPS;
 
 // How many bytes a telegram has, and the packets that carry a table.
 pub const LENGTH: usize = 26;
@@ -20,6 +22,20 @@ pub struct Telegram {
     pub packet: u8,
     pub step: u16,
     pub slots: [Slot; 4],
+}
+
+// In the first two bytes the packet number has the top three bits and the step number the low thirteen. The bytes may be any, and as
+// many as come.
+pub fn packet_in(telegram: &[u8]) -> u8
+    ensures { (result ≡ packet_in telegram.now) × (result ≤ 7) }
+{
+    (wire::word_at(telegram, 0) / STEPS) as u8
+}
+
+pub fn step_in(telegram: &[u8]) -> u16
+    ensures { result ≡ step_in telegram.now }
+{
+    wire::word_at(telegram, 0) % STEPS
 }
 
 // Slot i of a table, and past its end an empty one.

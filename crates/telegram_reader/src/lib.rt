@@ -1,7 +1,7 @@
 // Reading a telegram of any bytes and any length: its refusal (10, 11, then the first bad slot with 12, 13, 6, 14), or what it means.
 #![tactic(auto)]
 
-ghost use Rattle.std.specs.Prelude.{◌≡◌, ◌<◌, ◌≤◌};
+ghost use Rattle.std.specs.Prelude.{◌≡◌, ◌<◌};
 ghost use Rattle.kit.specs.Ladder.{ladder};
 ghost use Rattle.wire.specs.Verdicts.{refusal_number};
 ghost use Rattle.telegram_reader.specs.Places.{place_slot};
@@ -9,59 +9,77 @@ ghost use Rattle.telegram.specs.Telegrams.{coded_at, slot_at, taken_before, plac
 
 use condition::{Coded, Slot};
 use telegram::{FIRST_PACKET, LENGTH, Telegram};
-use wire::{Refusal, STEPS};
+use wire::Refusal;
 
-// The six bytes of place k, 0 to 3.
-#[tactic(auto, unfolding(telegram::specs::Telegrams::coded_at))]
-fn coded_at(telegram: &[u8; 26], k: usize) -> Coded
-    requires { k < 4 }
-    ensures { result ≡ coded_at telegram.now k }
-{
-    let at = 2 + 6 * k;
-    Coded {
-        number: telegram[at],
-        kind: telegram[at + 1],
-        first: wire::word(telegram[at + 2], telegram[at + 3]),
-        second: wire::word(telegram[at + 4], telegram[at + 5]),
-    }
+// One of the four places of a telegram, 0 to 3.
+#[derive(Clone, Copy)]
+struct Place<'a> {
+    telegram: &'a [u8; 26],
+    k: usize,
+    ghost below: { k < 4 },
 }
 
-// Whether a number stands in a place below k.
-fn taken_before(telegram: &[u8; 26], k: usize, number: u8) -> bool
-    requires { k ≤ 4 }
-    ensures { result ≡ taken_before telegram.now k number }
-{
-    for j in 0..k {
-        if telegram[2 + 6 * j] == number {
-            return true;
+impl Place<'_> {
+    // Its six bytes.
+    #[tactic(auto, unfolding(telegram::specs::Telegrams::coded_at))]
+    fn coded(&self) -> Coded
+        ensures { result ≡ coded_at self.now.telegram.now self.now.k }
+    {
+        let at = 2 + 6 * self.k;
+        Coded {
+            number: self.telegram[at],
+            kind: self.telegram[at + 1],
+            first: wire::word(self.telegram[at + 2], self.telegram[at + 3]),
+            second: wire::word(self.telegram[at + 4], self.telegram[at + 5]),
         }
     }
-    false
-}
 
-// The refusal of place k: its own rows, and below them 14 where its number stands in an earlier place.
-#[tactic(auto, unfolding(kit::specs::Ladder::ladder))]
-fn place_refusal(telegram: &[u8; 26], k: usize) -> Result<(), Refusal>
-    requires { k < 4 }
-    ensures { refusal_number result ≡ ladder 0 (place_rows telegram.now k) }
-{
-    let coded = coded_at(telegram, k);
-    condition::refusal_of(coded)?;
-    if coded.number != 0 && taken_before(telegram, k, coded.number) {
-        return Err(Refusal::NumberTwice);
+    // Whether a number stands in an earlier place.
+    fn is_taken(&self, number: u8) -> bool
+        ensures { result ≡ taken_before self.now.telegram.now self.now.k number }
+    {
+        for j in 0..self.k {
+            if self.telegram[2 + 6 * j] == number {
+                return true;
+            }
+        }
+        false
     }
-    Ok(())
+
+    // Its refusal: its own rows, and below them 14 where its number stands in an earlier place.
+    #[tactic(auto, unfolding(kit::specs::Ladder::ladder))]
+    fn refusal(&self) -> Result<(), Refusal>
+        ensures { refusal_number result ≡ ladder 0 (place_rows self.now.telegram.now self.now.k) }
+    {
+        let coded = self.coded();
+        condition::refusal_of(coded)?;
+        if coded.number != 0 && self.is_taken(coded.number) {
+            return Err(Refusal::NumberTwice);
+        }
+        Ok(())
+    }
+
+    // Its slot.
+    fn slot(&self) -> Slot
+        ensures { result ≡ slot_at self.now.telegram.now self.now.k }
+    {
+        let coded = self.coded();
+        Slot {
+            number: coded.number,
+            body: condition::body_of(coded.kind, coded.first, coded.second),
+        }
+    }
 }
 
 // The refusal of 26 bytes: their packet, and then the first bad place.
 fn refusal_within(telegram: &[u8; 26]) -> Result<(), Refusal>
     ensures { refusal_number result ≡ read_refusal telegram.now }
 {
-    if wire::word_at(telegram, 0) / STEPS < FIRST_PACKET as u16 {
+    if telegram::packet_in(telegram) < FIRST_PACKET {
         return Err(Refusal::NoTablePacket);
     }
     for k in 0..4 {
-        place_refusal(telegram, k)?;
+        Place { telegram, k }.refusal()?;
     }
     Ok(())
 }
@@ -77,43 +95,30 @@ pub fn refusal_of(bytes: &[u8]) -> Result<(), Refusal>
     }
 }
 
-// The slot of place k.
-fn slot_at(telegram: &[u8; 26], k: usize) -> Slot
-    requires { k < 4 }
-    ensures { result ≡ slot_at telegram.now k }
-{
-    let coded = coded_at(telegram, k);
-    Slot {
-        number: coded.number,
-        body: condition::body_of(coded.kind, coded.first, coded.second),
-    }
-}
-
 // The slot of place k of a telegram; of bytes that are not 26 or a place that is not 0 to 3, an empty one.
 #[tactic(auto, unfolding(crate::specs::Places::place_slot))]
 pub fn place_slot(bytes: &[u8], k: usize) -> Slot
     ensures { result ≡ place_slot bytes.now k }
 {
     match bytes.as_array::<26>() {
-        Some(telegram) if k < 4 => slot_at(telegram, k),
+        Some(telegram) if k < 4 => Place { telegram, k }.slot(),
         _ => Slot::empty(),
     }
 }
 
-// What a telegram means: in the first two bytes the packet number has the top three bits and the step number the low thirteen.
+// What a telegram means.
 #[tactic(auto, unfolding(telegram::specs::Telegrams::telegram_of))]
 fn telegram_of(telegram: &[u8; 26]) -> Telegram
     ensures { result ≡ telegram_of telegram.now }
 {
-    let head = wire::word_at(telegram, 0);
     Telegram {
-        packet: (head / STEPS) as u8,
-        step: head % STEPS,
+        packet: telegram::packet_in(telegram),
+        step: telegram::step_in(telegram),
         slots: [
-            slot_at(telegram, 0),
-            slot_at(telegram, 1),
-            slot_at(telegram, 2),
-            slot_at(telegram, 3),
+            Place { telegram, k: 0 }.slot(),
+            Place { telegram, k: 1 }.slot(),
+            Place { telegram, k: 2 }.slot(),
+            Place { telegram, k: 3 }.slot(),
         ],
     }
 }

@@ -29,7 +29,12 @@ pub fn long_at(list: &[u8], i: usize) -> u32
     ensures { result ≡ long_at list.now i }
 {
     if i < list.len() {
-        return word_at(list, i) as u32 * 0x10000 + word_at(list, i + 2) as u32;
+        return u32::from_be_bytes([
+            list[i],
+            byte_at(list, i + 1),
+            byte_at(list, i + 2),
+            byte_at(list, i + 3),
+        ]);
     }
     0
 }

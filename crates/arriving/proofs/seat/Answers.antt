@@ -14,7 +14,7 @@ use Rattle.order_list.specs.declared.Order.{Order}
 use Rattle.order_list.proofs.Searched.{some-below, none-below}
 use Rattle.places.specs.declared.Place.{Place}
 use Rattle.places.proofs.Live.{lowest_free_lem}
-use Rattle.resting.specs.Rests.{is_resting}
+use Rattle.resting.specs.Rests.{rests_in}
 use Rattle.numbers.specs.Numbers.{next_number}
 use Rattle.leaving.specs.Leaving.{body_in}
 use Rattle.arriving.specs.Arriving.{seated}
@@ -47,11 +47,11 @@ pub returns-in-Some : goal.returns-in-Some
 returns-in-Some c =
     let a = c.args in
     let (found, p) = some-below _ _ _ c.in-Some.ensures in
-    wrote (is_resting a.rest a.step a.ended) a.order a.seats _ _ _ c.requires c.next_number-last.ensures (found ∙ lowest_free_lem a.seats.places) c.body_of.ensures
+    wrote (rests_in a.at_rest) a.order a.seats _ _ _ c.requires c.next_number-last.ensures (found ∙ lowest_free_lem a.seats.places) c.body_of.ensures
 
 pub returns-in_default : goal.returns-in_default
 returns-in_default c =
     let a = c.args in
     let twenty : length a.seats.places ≡ slot_count = search rules in
     let full = none-below _ _ c.in_default.ensures in
-    crowded (is_resting a.rest a.step a.ended) a.order a.seats _ _ c.requires c.next_number-last.ensures (lowest_free_lem a.seats.places) (omega (arith, twenty, full))
+    crowded (rests_in a.at_rest) a.order a.seats _ _ c.requires c.next_number-last.ensures (lowest_free_lem a.seats.places) (omega (arith, twenty, full))

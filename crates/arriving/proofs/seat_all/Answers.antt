@@ -19,7 +19,7 @@ use Rattle.order_list.proofs.Searched.{below-some, below-none}
 use Rattle.places.specs.Places.{orders_of, place_of, is_live}
 use Rattle.places.specs.declared.Place.{Place}
 use Rattle.places.proofs.Live.{found-live}
-use Rattle.resting.specs.Rests.{is_resting}
+use Rattle.resting.specs.Rests.{rests_in}
 use Rattle.arriving.specs.Arriving.{seated, seated_all}
 use Rattle.arriving.specs.declared.Seats.{Seats}
 use Rattle.arriving.proofs.Seated.{seated-live, seated-new}
@@ -69,8 +69,8 @@ pub loop-j-preserved : goal.loop-j-preserved
 loop-j-preserved c =
     let l = c.loop-j in
     let a = c.args in
-    let resting = is_resting a.rest a.step a.ended in
-    let first : Seats = record { places = a.kept; last = a.last } in
+    let resting = rests_in a.at_rest in
+    let first : Seats = a.first in
     elim c.if-is_none.branch [
       | then-is_none w ↦
           let fresh =
@@ -99,4 +99,4 @@ pub returns : goal.returns
 returns c =
     let a = c.args in
     let end : c.loop-j.j ≡ a.n = search rules in
-    c.loop-j.invariant.seats ∙ ap (seated_all (is_resting a.rest a.step a.ended) a.list.now (record { places = a.kept; last = a.last })) end
+    c.loop-j.invariant.seats ∙ ap (seated_all (rests_in a.at_rest) a.list.now a.first) end

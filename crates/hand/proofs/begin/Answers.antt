@@ -6,7 +6,7 @@ use lib.Seq.{sets}
 use native.Mathlib.Omega.{arith}
 use Rattle.kit.specs.Bytes.{word_bytes}
 use Rattle.memory.specs.Memory.{memory_size, step_from}
-use Rattle.memory.proofs.Parts.{two_parts}
+use Rattle.kit.proofs.Parts.{two_parts}
 use Rattle.hand.specs.Lent.{begun_in}
 use borrow.Author.Rules.{rules}
 use Rattle.hand.proofs.begin.Goals as goal

@@ -9,7 +9,7 @@ use Rattle.kit.specs.Bytes.{word_bytes}
 use Rattle.telegram.specs.Tables.{packets}
 use Rattle.memory.specs.Memory.{memory_size, step_from, set_from, flag_byte, table_bytes}
 use Rattle.kit.proofs.Arrays.{mapped-all}
-use Rattle.memory.proofs.Parts.{two_parts}
+use Rattle.kit.proofs.Parts.{two_parts}
 use Rattle.hand.proofs.Lent.{hand_parts}
 use borrow.Author.Rules.{rules}
 use Rattle.hand.proofs.put_hand.Goals as goal

@@ -1,12 +1,13 @@
--- `hear`: what is poured and the lines of what is left of the input make the whole, turn by turn; each turn leaves less.
-use lib.ListN.{length}
-use Rattle.frames.proofs.Pouring.{Pouring}
+-- `hear`: the lines of what is left of the input, put after those so far, make the whole, turn by turn; no length is bare.
+use mathlib.Core.Path.{◌≡◌}
+use Rattle.std.specs.Prelude.{None}
+use Rattle.text.specs.Putting.{put_on}
 use Rattle.listener.specs.Lent.{listener_in}
 use Rattle.hearing_runs.specs.Runs.{lines_heard_by, lines_heard}
 use Rattle.hearing_runs.proofs.hear.Given as goal
 
-abbrev pub invariant-loop-rest : goal.invariant-loop-rest
-invariant-loop-rest l = Pouring l.initial.lines (lines_heard l.input) l.lines l.at (lines_heard_by (listener_in l.memory) l.rest)
-
-abbrev pub decreases-loop-rest : goal.decreases-loop-rest
-decreases-loop-rest l = length l.rest
+abbrev pub invariant-loop-telegram : goal.invariant-loop-telegram
+invariant-loop-telegram l = record {
+  bare : l.telegram-iterator.bare ≡ None;
+  goes : put_on (lines_heard_by (listener_in l.memory) l.telegram-iterator.rest.now) l.sheet ≡ put_on (lines_heard l.fn.input) l.initial.sheet;
+}

@@ -9,7 +9,7 @@ use mir.Val.{bool_byte}
 use Rattle.std.specs.Prelude.{Option, None, Some}
 use Rattle.std.specs.Option.{is_some, unwrap_or}
 use Rattle.memory.specs.Memory.{memory_size, last_from}
-use Rattle.memory.proofs.Parts.{part-stored}
+use Rattle.kit.proofs.Parts.{part-stored}
 use Rattle.last_step.specs.Lent.{last_bytes}
 use Rattle.last_step.proofs.Lent.{last-length}
 use borrow.Author.Rules.{rules}

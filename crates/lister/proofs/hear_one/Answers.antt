@@ -1,7 +1,7 @@
 -- `hear_one`: the listener's memory hears.
 use mathlib.Core.List.{[]}
-use mathlib.Core.Path.{◌≡◌, ap, ◌∙◌}
-use Rattle.kit.proofs.Put.{poured_as}
+use mathlib.Core.Path.{◌≡◌, ap, sym, ◌∙◌}
+use Rattle.text.specs.Putting.{put_on}
 use Rattle.listener.specs.Lent.{listener_in}
 use Rattle.listener.proofs.Back.{Sized, means-back}
 use Rattle.lister.specs.Pieces.{padded}
@@ -25,5 +25,5 @@ returns c =
     let same : listener_in c.memory_of-memory.result ≡ listener = ap listener_in c.memory_of-memory.ensures ∙ means-back listener sized in (
       ap (λ l. state l c.hear_next-next.result.tables (padded []) 0) c.listener_in.ensures
           ∙ next-heard lister telegram _ _ _ same c.hear_next-next.ensures.0,
-      poured_as (next-lines lister telegram _ same) c.hear_next-next.ensures.1,
+      c.hear_next-next.ensures.1 ∙ ap (λ bytes. put_on bytes c.args.listing.now) (sym (next-lines lister telegram _ same)),
     )

@@ -27,7 +27,7 @@ loop-telegram-init c =
     record {
       size = ap (λ i. i.size) iterator ∙ cut.size;
       left =
-          left_as (left-all c.requires.0 c.requires.1 (ap (λ l. state l lister.tables lister.tail lister.kept) same) c.min-next.ensures) refl
+          left_as (left-all c.requires.0 c.requires.1 (ap (λ l. state l lister.tables lister.tail lister.kept) same)) refl
           (ap (λ i. i.rest.now) iterator ∙ cut.rest);
     }
 
@@ -37,7 +37,7 @@ loop-telegram-preserved c =
     let steps = c.in-Some.ensures.steps in
     record {
       size = steps.0 ∙ l.size;
-      left = left-next c.in-Some.telegram.now c.next.new.self.rest.now l.left steps.1.0 (steps.1.1 ∙ l.size) c.hear_next-heard.ensures.0 c.hear_next-heard.ensures.1;
+      left = left-next c.in-Some.telegram.now c.next.new.self.rest.now l.left steps.1.0 (steps.1.1 ∙ l.size) c.hear_next-tables.ensures.0 c.hear_next-tables.ensures.1;
     }
 
 pub bite-requires : goal.bite-requires

@@ -8,5 +8,5 @@ use Rattle.lister.proofs.take_rest.Given as goal
 abbrev pub invariant-loop-telegram : goal.invariant-loop-telegram
 invariant-loop-telegram l = record {
   size : l.telegram-iterator.size ≡ 26;
-  left : Left l.lister l.piece l.initial.listing l.fn.at (state (listener_in l.memory) l.tables l.lister.tail l.lister.kept) l.telegram-iterator.rest.now l.listing l.next;
+  left : Left l.lister l.piece l.initial.listing (state (listener_in l.memory) l.tables l.lister.tail l.lister.kept) l.telegram-iterator.rest.now l.listing;
 }

@@ -8,6 +8,6 @@ use Rattle.listing_length.proofs.length_of.Given as goal
 abbrev pub invariant-loop-piece : goal.invariant-loop-piece
 invariant-loop-piece l = record {
   size : l.piece-iterator.size ≡ piece_size;
-  room : length l.out ≡ piece_lines_room;
+  room : length l.sheet.buffer.now ≡ piece_lines_room;
   counted : SoFar l.recording l.lister l.bytes l.piece-iterator.rest.now;
 }

@@ -5,7 +5,7 @@ use lib.ListN.{length}
 use lib.Seq.{sets}
 use native.Mathlib.Omega.{arith}
 use Rattle.memory.specs.Memory.{memory_size}
-use Rattle.memory.proofs.Parts.{part-stored}
+use Rattle.kit.proofs.Parts.{part-stored}
 use Rattle.memory.proofs.Slots.{slot-length}
 use borrow.Author.Rules.{rules}
 use Rattle.memory.proofs.put_bytes.Goals as goal

@@ -5,7 +5,7 @@ use lib.ListN.{length, drop, length-drop}
 use native.Mathlib.Omega.{arith}
 use Rattle.std.specs.List.{copy_within}
 use Rattle.memory.specs.Memory.{memory_size, set_from, with_picture}
-use Rattle.memory.proofs.Parts.{paste-stored}
+use Rattle.kit.proofs.Parts.{paste-stored}
 use borrow.Author.Rules.{rules}
 use Rattle.memory.proofs.show.Goals as goal
 

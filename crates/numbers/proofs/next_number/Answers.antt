@@ -1,7 +1,7 @@
 -- `next_number`: no number before the one in hand is permitted, and of 255 numbers one is, so the loop ends at one.
 use Rattle.std.proofs.Common.{◌≡◌, ℕ, length, map, sym, arith, rules, ◌∙◌}
 use lib.ListN.{length-map}
-use Rattle.resting.specs.Rests.{is_resting}
+use Rattle.resting.specs.Rests.{rests_in}
 use Rattle.resting.specs.declared.Ended.{Ended}
 use Rattle.resting.proofs.Rested.{covers-resting}
 use Rattle.numbers.proofs.Search.{number-first}
@@ -13,14 +13,14 @@ returns-then-is_permitted c =
     let a = c.args in
     let n = c.number_after-number.ensures in
     n
-    ∙ sym (number-first (is_resting a.rest a.step a.ended) a.places a.last c.loop-others.others (search rules) (rw n at (sym c.is_permitted.ensures ∙ c.if-is_permitted.true)) c.loop-others.invariant)
+    ∙ sym (number-first (rests_in a.at_rest) a.places a.last c.loop-others.others (search rules) (rw n at (sym c.is_permitted.ensures ∙ c.if-is_permitted.true)) c.loop-others.invariant)
 
 pub unreachable-requires : goal.unreachable-requires
 unreachable-requires c =
     let a = c.args in
     let number : Ended → ℕ = λ e. e.number in
-    let all : length a.ended ≡ 160 = search rules in
+    let all : length a.at_rest.ended ≡ 160 = search rules in
     let few =
-    others-few (is_resting a.rest a.step a.ended) (map number a.ended) (covers-resting a.rest a.step a.ended) (omega (arith, length-map a.ended number, all)) a.places
+    others-few (rests_in a.at_rest) (map number a.at_rest.ended) (covers-resting a.at_rest.rest a.at_rest.step a.at_rest.ended) (omega (arith, length-map a.at_rest.ended number, all)) a.places
     (search rules) a.last c.loop-others.others c.loop-others.invariant
     in omega (arith, few, c.loop-others-test.false)

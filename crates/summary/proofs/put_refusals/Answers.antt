@@ -12,10 +12,10 @@ loop-number-init c = record { stored = refl; past = search rules }
 
 pub loop-number-preserved : goal.loop-number-preserved
 loop-number-preserved c =
-    poured-each (refusal_at c.args.tally.now.refused c.args.tally.now.first) c.loop-number.number c.loop-number.invariant c.put_refusal-next.ensures
+    poured-each (refusal_at c.args.tally.now.refused) c.loop-number.number c.loop-number.invariant c.put_refusal-next.ensures
 
 pub returns : goal.returns
 unfolding refusal_parts
 returns c =
     let all : c.loop-number.number ≡ 16 = search rules in
-    poured_as (ap (each (refusal_at c.args.tally.now.refused c.args.tally.now.first) 0) (sym all)) c.loop-number.invariant
+    poured_as (ap (each (refusal_at c.args.tally.now.refused) 0) (sym all)) c.loop-number.invariant

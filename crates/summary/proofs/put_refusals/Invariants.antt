@@ -5,4 +5,4 @@ use Rattle.summary.specs.Summaries.{refusal_at}
 use Rattle.summary.proofs.put_refusals.Given as goal
 
 abbrev pub invariant-loop-number : goal.invariant-loop-number
-invariant-loop-number l = Poured l.initial.out l.fn.at (each (refusal_at l.tally.refused l.tally.first) 0 l.number) l.out l.next
+invariant-loop-number l = Poured l.initial.out l.fn.at (each (refusal_at l.tally.refused) 0 l.number) l.out l.next

@@ -9,9 +9,9 @@ use Rattle.telegram.proofs.Rows.{place-numbered}
 use Rattle.telegram_reader.proofs.refusal_within.Invariants.{judged}
 use Rattle.telegram_reader.proofs.refusal_within.Goals as goal
 
-pub returns-then-word_at : goal.returns-then-word_at
+pub returns-then-packet_in-lt-FIRST_PACKET : goal.returns-then-packet_in-lt-FIRST_PACKET
 unfolding ladder read_rows
-returns-then-word_at c = let n : length c.args.telegram.now ≡ 26 = search rules in simp (eq-eqb _ _ n, sym c.word_at.ensures, lt-ltb _ _ c.if-word_at.true)
+returns-then-packet_in-lt-FIRST_PACKET c = let n : length c.args.telegram.now ≡ 26 = search rules in simp (eq-eqb _ _ n, sym c.packet_in.ensures.0, lt-ltb _ _ c.if-packet_in-lt-FIRST_PACKET.true)
 
 pub loop-k-init : goal.loop-k-init
 unfolding ladder read_rows
@@ -19,19 +19,19 @@ loop-k-init c =
     let b = c.args.telegram.now in
     let n : length b ≡ 26 = search rules in (
       omega arith,
-      simp (eq-eqb _ _ n, sym c.word_at.ensures, le-ltb _ _ c.if-word_at.false) (ladder-each (place_rows b) (place-numbered b) 0 4),
+      simp (eq-eqb _ _ n, sym c.packet_in.ensures.0, le-ltb _ _ c.if-packet_in-lt-FIRST_PACKET.false) (ladder-each (place_rows b) (place-numbered b) 0 4),
     )
 
-pub returns-in_err-place_refusal : goal.returns-in_err-place_refusal
-returns-in_err-place_refusal c =
-    let e = c.in_err-place_refusal.ensures in
+pub returns-in_err-refusal : goal.returns-in_err-refusal
+returns-in_err-refusal c =
+    let e = c.in_err-refusal.ensures in
     exit_number c.from_residual.result _ c.from_residual.ensures.1
     ∙ (e ∙ sym (c.loop-k.invariant.1 ∙ first_hit (judged c.args.telegram.now) 4 c.loop-k.k (search rules) (number_nonzero _ _ e)))
 
 pub loop-k-preserved : goal.loop-k-preserved
 loop-k-preserved c = (
   search rules,
-  c.loop-k.invariant.1 ∙ first-go (judged c.args.telegram.now) 4 c.loop-k.k (search rules) (sym c.in_ok-place_refusal.ensures),
+  c.loop-k.invariant.1 ∙ first-go (judged c.args.telegram.now) 4 c.loop-k.k (search rules) (sym c.in_ok-refusal.ensures),
 )
 
 pub returns : goal.returns

@@ -5,6 +5,6 @@ use Rattle.kit.specs.Put.{Put}
 use Rattle.telegram.specs.Telegrams.{six_at}
 use Rattle.telegram_writer.proofs.put_telegram.Given as goal
 
-abbrev pub invariant-loop-slot : goal.invariant-loop-slot
-invariant-loop-slot l =
-    (l.at ≡ 2 + 6 * l.slot-index) × (length l.buffer ≡ 26) × Put l.initial.buffer l.initial.at (each (six_at l.fn.telegram.slots) 0 l.slot-index) l.buffer l.at
+abbrev pub invariant-loop-k : goal.invariant-loop-k
+invariant-loop-k l =
+    (length l.buffer ≡ 26) × Put l.initial.buffer 2 (each (six_at l.fn.telegram.slots) 0 l.k) l.buffer (2 + 6 * l.k)

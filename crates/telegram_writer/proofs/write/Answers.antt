@@ -1,19 +1,30 @@
--- `write`: by what `refusal_of` answered.
-use Rattle.std.proofs.Common.{refl, sym, ◌∙◌}
-use Rattle.telegram.proofs.Rows.{exit_writing, write-accepted, write-length}
+-- `write`: the packet by the test that led there, the length by whether the buffer is an array of 26 bytes.
+use Rattle.std.proofs.Common.{◌≡◌, length, refl, sym, ◌∙◌, arith, rules}
+use Rattle.kit.specs.Ladder.{ladder}
+use Rattle.telegram.specs.Telegrams.{write_refusal}
+use Rattle.telegram.proofs.Rows.{write-refused, write-accepted}
 use Rattle.telegram_writer.proofs.write.Goals as goal
 
-pub returns-in_err-refusal_of : goal.returns-in_err-refusal_of
-returns-in_err-refusal_of c =
+pub returns-then-not-contains : goal.returns-then-not-contains
+unfolding ladder
+returns-then-not-contains c =
     let a = c.args in
-    exit_writing c.from_residual.result _ a.telegram a.buffer.now c.from_residual.ensures.1 c.in_err-refusal_of.ensures
+    let same : 9 ≡ write_refusal a.telegram.packet (length a.buffer.now) = search rules in
+    let w = write-refused a.telegram a.buffer.now 9 same (λ z. omega arith) in
+    (sym w.0, sym w.1)
 
-pub put_telegram-requires : goal.put_telegram-requires
-put_telegram-requires c =
-    let a = c.args in write-length a.telegram a.buffer.now _ c.in_ok-refusal_of.ensures refl
-
-pub returns : goal.returns
-returns c =
+pub returns-in-None : goal.returns-in-None
+unfolding ladder
+returns-in-None c =
     let a = c.args in
-    let w = write-accepted a.telegram a.buffer.now _ c.in_ok-refusal_of.ensures refl in
+    let same : 10 ≡ write_refusal a.telegram.packet (length a.buffer.now) = search rules in
+    let w = write-refused a.telegram a.buffer.now 10 same (λ z. omega arith) in
+    (sym w.0, sym w.1)
+
+pub returns-in-Some : goal.returns-in-Some
+unfolding ladder
+returns-in-Some c =
+    let a = c.args in
+    let same : 0 ≡ write_refusal a.telegram.packet (length a.buffer.now) = search rules in
+    let w = write-accepted a.telegram a.buffer.now 0 same refl in
     (sym w.0, c.put_telegram.ensures ∙ sym w.1)

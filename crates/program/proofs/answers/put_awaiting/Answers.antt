@@ -1,8 +1,14 @@
 -- `put_awaiting`: the name and what is awaited.
-use Rattle.kit.proofs.Put.{poured-then}
+use Rattle.std.proofs.Common.{ap, ◌∙◌}
+use Rattle.text.specs.Putting.{put_on}
+use Rattle.text.proofs.Putting.{put_next}
 use Rattle.program.specs.Answers.{awaiting_line}
 use Rattle.program.proofs.answers.put_awaiting.Goals as goal
 
 pub returns : goal.returns
 unfolding awaiting_line
-returns c = rw (← c.awaited.ensures) (poured-then c.put_name-second.ensures (poured-then c.put_words-third.ensures (poured-then c.put_words-fourth.ensures c.put_words.ensures)))
+returns c =
+    rw (← c.awaited.ensures)
+    (c.put_words-3.ensures
+    ∙ (ap (put_on _) c.put_words-2.ensures
+    ∙ (put_next _ _ _ ∙ (ap (put_on _) c.put_words.ensures ∙ (put_next _ _ _ ∙ (ap (put_on _) c.put_name.ensures ∙ put_next _ _ _))))))

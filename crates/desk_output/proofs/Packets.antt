@@ -1,0 +1,47 @@
+-- The packets of a table, one after another in their order.
+use Prim.Native.Nat.{ℕ, ◌+◌, ◌-◌, ◌≤◌}
+use mathlib.Core.List.{List, ◌++◌, append-nil}
+use mathlib.Core.Path.{◌≡◌, sym, ap, ◌∙◌}
+use native.Mathlib.Omega.{arith}
+use Rattle.kit.specs.Each.{each}
+use Rattle.kit.specs.Put.{Poured}
+use Rattle.kit.proofs.Each.{each_next}
+use Rattle.kit.proofs.Put.{poured_as, poured-then}
+use Rattle.condition.specs.declared.slots.Slot.{Slot}
+use Rattle.telegram.specs.Tables.{four_of}
+use Rattle.telegram.specs.Telegrams.{bytes_of}
+use Rattle.telegram.specs.declared.Telegram.{Telegram}
+use Rattle.desk.specs.Desks.{table_of, packet_of}
+use Rattle.desk.specs.declared.Desk.{Desk}
+use Rattle.desk.proofs.Tables.{telegram-is}
+use Rattle.desk_output.specs.Outputs.{five_telegrams}
+
+module _ (desk : Desk) where
+  -- packet k of the five
+  abbrev pub packet_bytes : ℕ → List ℕ
+  packet_bytes k = bytes_of (packet_of desk (k + 3))
+
+  -- those before this one
+  abbrev pub packets_before : ℕ → List ℕ
+  packets_before packet = each packet_bytes 0 (packet - 3)
+
+  abbrev carrying : ℕ → List Slot → Telegram
+  carrying packet four = record { packet = packet; step = desk.step; slots = four }
+
+  -- a packet with its four slots of the table is that of the desk, and stands behind those before it
+  pub packet_more : {table : List Slot} → table ≡ table_of desk → (packet : ℕ) → 3 ≤ packet → {four : List Slot} → four ≡ four_of table packet → {l m n : List ℕ} {at j k : ℕ}
+      → Poured l at (packets_before packet) m j → Poured m j (bytes_of (carrying packet four)) n k → Poured l at (packets_before (packet + 1)) n k
+  packet_more {table = table} same packet from {four = four} own before here =
+      let one : packet + 1 - 3 ≡ packet - 3 + 1 = omega arith in
+      let back : packet - 3 + 3 ≡ packet = omega arith in
+      let bytes : packet_bytes (packet - 3) ≡ bytes_of (carrying packet four) =
+      ap (λ (k : ℕ). bytes_of (packet_of desk k)) back
+      ∙ ap bytes_of (telegram-is desk packet ∙ ap (carrying packet) (sym (own ∙ ap (λ (t : List Slot). four_of t packet) same))) in
+      poured_as (ap (each packet_bytes 0) one ∙ each_next packet_bytes (packet - 3)) (poured-then before (poured_as bytes here))
+
+  pub packets_all : (packet : ℕ) → packet ≡ 8 → packets_before packet ≡ five_telegrams desk
+  unfolding each five_telegrams
+  packets_all packet e =
+      let n : packet - 3 ≡ 5 = omega arith in
+      ap (each packet_bytes 0) n
+      ∙ ap (λ (l : List ℕ). packet_bytes 0 ++ (packet_bytes 1 ++ (packet_bytes 2 ++ (packet_bytes 3 ++ l)))) (append-nil (packet_bytes 4))
