@@ -1,12 +1,12 @@
 -- The packets of a table, one after another in their order.
 use Prim.Native.Nat.{ℕ, ◌+◌, ◌-◌, ◌≤◌}
 use mathlib.Core.List.{List, ◌++◌, append-nil}
-use mathlib.Core.Path.{◌≡◌, sym, ap, ◌∙◌}
+use mathlib.Core.Path.{◌≡◌, sym, ap, ap₂, ◌∙◌}
 use native.Mathlib.Omega.{arith}
 use Rattle.kit.specs.Each.{each}
-use Rattle.kit.specs.Put.{Poured}
-use Rattle.kit.proofs.Each.{each_next}
-use Rattle.kit.proofs.Put.{poured_as, poured-then}
+use Rattle.text.specs.Putting.{put_on}
+use Rattle.text.specs.declared.sheets.Sheet.{Sheet}
+use Rattle.text.proofs.Putting.{put_each}
 use Rattle.condition.specs.declared.slots.Slot.{Slot}
 use Rattle.telegram.specs.Tables.{four_of}
 use Rattle.telegram.specs.Telegrams.{bytes_of}
@@ -29,15 +29,16 @@ module _ (desk : Desk) where
   carrying packet four = record { packet = packet; step = desk.step; slots = four }
 
   -- a packet with its four slots of the table is that of the desk, and stands behind those before it
-  pub packet_more : {table : List Slot} → table ≡ table_of desk → (packet : ℕ) → 3 ≤ packet → {four : List Slot} → four ≡ four_of table packet → {l m n : List ℕ} {at j k : ℕ}
-      → Poured l at (packets_before packet) m j → Poured m j (bytes_of (carrying packet four)) n k → Poured l at (packets_before (packet + 1)) n k
-  packet_more {table = table} same packet from {four = four} own before here =
-      let one : packet + 1 - 3 ≡ packet - 3 + 1 = omega arith in
+  pub packet_more : {table : List Slot} → table ≡ table_of desk → (packet : ℕ) → 3 ≤ packet → {four : List Slot} → four ≡ four_of table packet
+      → (before : Sheet) {middle after : Sheet} → middle ≡ put_on (packets_before packet) before → after ≡ put_on (bytes_of (carrying packet four)) middle
+      → after ≡ put_on (packets_before (packet + 1)) before
+  packet_more {table = table} same packet from {four = four} own before so_far here =
+      let one : packet - 3 + 1 ≡ packet + 1 - 3 = omega arith in
       let back : packet - 3 + 3 ≡ packet = omega arith in
-      let bytes : packet_bytes (packet - 3) ≡ bytes_of (carrying packet four) =
-      ap (λ (k : ℕ). bytes_of (packet_of desk k)) back
-      ∙ ap bytes_of (telegram-is desk packet ∙ ap (carrying packet) (sym (own ∙ ap (λ (t : List Slot). four_of t packet) same))) in
-      poured_as (ap (each packet_bytes 0) one ∙ each_next packet_bytes (packet - 3)) (poured-then before (poured_as bytes here))
+      let bytes : bytes_of (carrying packet four) ≡ packet_bytes (packet - 3) =
+      ap bytes_of (ap (carrying packet) (own ∙ ap (λ (t : List Slot). four_of t packet) same) ∙ sym (telegram-is desk packet))
+      ∙ ap (λ (k : ℕ). bytes_of (packet_of desk k)) (sym back) in
+      here ∙ (ap₂ put_on bytes so_far ∙ (put_each packet_bytes (packet - 3) before ∙ ap (λ (k : ℕ). put_on (each packet_bytes 0 k) before) one))
 
   pub packets_all : (packet : ℕ) → packet ≡ 8 → packets_before packet ≡ five_telegrams desk
   unfolding each five_telegrams

@@ -2,13 +2,15 @@
 // lent buffers; and the desk that the lists leave.
 #![tactic(auto)]
 
-ghost use Rattle.std.specs.Prelude.{◌≤◌, ◌≡◌, length};
+ghost use Rattle.std.specs.Prelude.{◌≡◌};
 ghost use Rattle.kit.specs.Put.{Poured};
+ghost use Rattle.text.specs.Putting.{put_on};
 ghost use Rattle.desk.specs.Desks.{base_rest, accept_of, Made};
 ghost use Rattle.desk_runs.specs.Runs.{table_for, line_for, run_tables, refused_lines, desk_at_end};
 
 use desk::{Answer, Desk};
 use frames::Calls;
+use text::Sheet;
 
 // How many bytes were put into each of the two buffers. They stand beside the buffers, since those are lent from C.
 #[derive(Clone, Copy)]
@@ -17,61 +19,37 @@ pub struct Ran {
     pub lines: usize,
 }
 
-// The desk after one list or all, and how far the buffers are filled.
-#[derive(Clone, Copy)]
-struct Taken {
-    desk: Desk,
-    ran: Ran,
-}
-
-// One list more: the table after it, or the line that it is refused. That the desk was made is asked for, and is no invariant of `Desk`:
-// `desk_writer::write` takes any desk.
-fn take(before: Taken, list: &[u8], lists: u64, tables: &mut [u8], lines: &mut [u8]) -> Taken
-    requires { Made before.desk × (before.ran.tables ≤ length tables.old) × (before.ran.lines ≤ length lines.old) }
-    ensures { (result.desk ≡ (accept_of base_rest before.desk list.now).desk)
-        × Poured tables.old before.ran.tables (table_for (accept_of base_rest before.desk list.now).verdict (accept_of base_rest before.desk list.now).desk) tables.new result.ran.tables
-        × Poured lines.old before.ran.lines (line_for (accept_of base_rest before.desk list.now).verdict lists) lines.new result.ran.lines }
+// One list more: the table after it, or the line that it is refused. The answer is the desk after it. That the desk was made is asked for,
+// and is no invariant of `Desk`: `desk_writer::write` takes any desk.
+#[tactic(auto, using(text::proofs::Putting::put_none))]
+fn take(
+    before: Desk,
+    list: &[u8],
+    lists: u64,
+    tables: &mut Sheet<'_>,
+    lines: &mut Sheet<'_>,
+) -> Desk
+    requires { Made before }
+    ensures { (result ≡ (accept_of base_rest before list.now).desk)
+        × (tables.new ≡ put_on (table_for (accept_of base_rest before list.now).verdict (accept_of base_rest before list.now).desk) tables.old)
+        × (lines.new ≡ put_on (line_for (accept_of base_rest before list.now).verdict lists) lines.old) }
 {
-    let Answer { verdict, desk } = before.desk.accept(list);
-    let ran = before.ran;
+    let Answer { verdict, desk } = before.accept(list);
     match verdict {
-        Ok(()) => {
-            let tables = desk_output::put_table(desk, tables, ran.tables);
-            Taken {
-                desk,
-                ran: Ran {
-                    tables,
-                    lines: ran.lines,
-                },
-            }
-        }
-        Err(refusal) => {
-            let lines = desk_output::put_refused(refusal.into(), lists, lines, ran.lines);
-            Taken {
-                desk,
-                ran: Ran {
-                    tables: ran.tables,
-                    lines,
-                },
-            }
-        }
+        Ok(()) => desk_output::put_table(desk, tables),
+        Err(refusal) => desk_output::put_refused(refusal.into(), lists, lines),
     }
+    desk
 }
 
 // Hands all lists to a fresh desk: the table after each that is accepted, and a line for each that is refused and where the input ends
-// inside a list. What has no room before a buffer's end is dropped. The desk is the one that the lists leave.
-fn hand_over(input: &[u8], tables: &mut [u8], lines: &mut [u8]) -> Taken
-    ensures { (result.desk ≡ desk_at_end input.now)
-        × Poured tables.old 0 (run_tables input.now) tables.new result.ran.tables
-        × Poured lines.old 0 (refused_lines input.now) lines.new result.ran.lines }
+// inside a list. What has no room before a sheet's end is dropped. The answer is the desk that the lists leave.
+fn hand_over(input: &[u8], tables: &mut Sheet<'_>, lines: &mut Sheet<'_>) -> Desk
+    ensures { (result ≡ desk_at_end input.now)
+        × (tables.new ≡ put_on (run_tables input.now) tables.old)
+        × (lines.new ≡ put_on (refused_lines input.now) lines.old) }
 {
-    let mut taken = Taken {
-        desk: Desk::fresh(),
-        ran: Ran {
-            tables: 0,
-            lines: 0,
-        },
-    };
+    let mut desk = Desk::fresh();
     let mut lists: u64 = 0;
     let calls = Calls {
         rest: input,
@@ -79,13 +57,13 @@ fn hand_over(input: &[u8], tables: &mut [u8], lines: &mut [u8]) -> Taken
     };
     for list in calls {
         let Ok(list) = list else {
-            taken.ran.lines = desk_output::put_short(lines, taken.ran.lines);
-            return taken;
+            desk_output::put_short(lines);
+            return desk;
         };
         lists += 1;
-        taken = take(taken, list.bytes, lists, tables, lines);
+        desk = take(desk, list.bytes, lists, tables, lines);
     }
-    taken
+    desk
 }
 
 // The tables and the lines that come of all lists, into two buffers.
@@ -93,7 +71,13 @@ pub fn run(input: &[u8], tables: &mut [u8], lines: &mut [u8]) -> Ran
     ensures { Poured tables.old 0 (run_tables input.now) tables.new result.tables
         × Poured lines.old 0 (refused_lines input.now) lines.new result.lines }
 {
-    hand_over(input, tables, lines).ran
+    let mut table_sheet = Sheet::on(tables, 0);
+    let mut line_sheet = Sheet::on(lines, 0);
+    hand_over(input, &mut table_sheet, &mut line_sheet);
+    Ran {
+        tables: table_sheet.at,
+        lines: line_sheet.at,
+    }
 }
 
 // The desk that all lists leave, from a fresh one on. A refused list leaves it as it was, and so does an input's tail that is no whole list.
@@ -101,5 +85,9 @@ pub fn run(input: &[u8], tables: &mut [u8], lines: &mut [u8]) -> Ran
 pub fn desk_after(input: &[u8]) -> Desk
     ensures { result ≡ desk_at_end input.now }
 {
-    hand_over(input, &mut [], &mut []).desk
+    hand_over(
+        input,
+        &mut Sheet::on(&mut [], 0),
+        &mut Sheet::on(&mut [], 0),
+    )
 }

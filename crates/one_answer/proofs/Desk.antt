@@ -1,6 +1,5 @@
 -- One answer of the desk: each contract admits one (C-04).
 use mathlib.Core.Path.{refl, ap}
-use Rattle.kit.proofs.Cases.{given}
 use Rattle.kit.specs.Contracts.{OneAnswer}
 use Rattle.kit.proofs.Contracts.{agree, agree-poured}
 use Rattle.wire.proofs.Results.{refusal_number-apart, verdict_in-apart}
@@ -106,13 +105,13 @@ desk_writer-write κs handed answer other lasts others p q = (verdict_in-apart a
 -- ---- desk_output
 
 pub desk_output-put_table : OneAnswer desk-output-contracts.put_table.ended desk-output.put_table.Reads.Learnt
-desk_output-put_table κs handed answer other lasts others p q = given (agree-poured p q) (λ (place, bytes). (place, ap (λ b. (tt, (b, (tt, tt)))) bytes))
+desk_output-put_table κs handed answer other lasts others p q = (refl, ap (λ sheet. (tt, (sheet, tt))) (agree p q))
 
 pub desk_output-put_refused : OneAnswer desk-output-contracts.put_refused.ended desk-output.put_refused.Reads.Learnt
-desk_output-put_refused κs handed answer other lasts others p q = given (agree-poured p q) (λ (place, bytes). (place, ap (λ b. (tt, (tt, (b, (tt, tt))))) bytes))
+desk_output-put_refused κs handed answer other lasts others p q = (refl, ap (λ sheet. (tt, (tt, (sheet, tt)))) (agree p q))
 
 pub desk_output-put_short : OneAnswer desk-output-contracts.put_short.ended desk-output.put_short.Reads.Learnt
-desk_output-put_short κs handed answer other lasts others p q = given (agree-poured p q) (λ (place, bytes). (place, ap (λ b. (b, (tt, tt))) bytes))
+desk_output-put_short κs handed answer other lasts others p q = (refl, ap (λ sheet. (sheet, tt)) (agree p q))
 
 -- ---- desk_runs
 

@@ -1,8 +1,7 @@
 -- One answer of bytes, steps and distances, and of text and calls that stand one after another: each contract admits one (C-04).
-use mathlib.Core.Path.{refl, ap}
-use Rattle.kit.proofs.Cases.{given}
+use mathlib.Core.Path.{◌≡◌, refl, ap, ap₂}
 use Rattle.kit.specs.Contracts.{OneAnswer}
-use Rattle.kit.proofs.Contracts.{agree, agree-poured}
+use Rattle.kit.proofs.Contracts.{agree}
 use Rattle.wire.proofs as wire
 use Rattle.wire.specs.contracts as wire-contracts
 use Rattle.text.proofs as text
@@ -35,14 +34,19 @@ wire-gap κs handed answer other lasts others p q = (agree p q, refl)
 
 -- ---- text
 
-pub text-put_byte : OneAnswer text-contracts.put_byte.ended text.put_byte.Reads.Learnt
-text-put_byte κs handed answer other lasts others p q = given (agree-poured p q) (λ (place, bytes). (place, ap (λ b. (b, (tt, (tt, tt)))) bytes))
+pub text-on : OneAnswer text-contracts.sheets.Sheet.on.ended text.sheets.Sheet.on.Reads.Learnt
+text-on κs handed answer other lasts others p q =
+    let same : answer ≡ other = ap₂ (λ buffer at. record { buffer = buffer; at = at }) (agree p.0 q.0) (agree p.1 q.1) in
+    (same, refl)
 
-pub text-put_words : OneAnswer text-contracts.put_words.ended text.put_words.Reads.Learnt
-text-put_words κs handed answer other lasts others p q = given (agree-poured p q) (λ (place, bytes). (place, ap (λ b. (b, (tt, (tt, tt)))) bytes))
+pub text-put_byte : OneAnswer text-contracts.sheets.Sheet.put_byte.ended text.sheets.Sheet.put_byte.Reads.Learnt
+text-put_byte κs handed answer other lasts others p q = (refl, ap (λ s. (s, (tt, tt))) (agree p q))
 
-pub text-put_decimal : OneAnswer text-contracts.put_decimal.ended text.put_decimal.Reads.Learnt
-text-put_decimal κs handed answer other lasts others p q = given (agree-poured p q) (λ (place, bytes). (place, ap (λ b. (b, (tt, (tt, tt)))) bytes))
+pub text-put_words : OneAnswer text-contracts.sheets.Sheet.put_words.ended text.sheets.Sheet.put_words.Reads.Learnt
+text-put_words κs handed answer other lasts others p q = (refl, ap (λ s. (s, (tt, tt))) (agree p q))
+
+pub text-put_decimal : OneAnswer text-contracts.sheets.Sheet.put_decimal.ended text.sheets.Sheet.put_decimal.Reads.Learnt
+text-put_decimal κs handed answer other lasts others p q = (refl, ap (λ s. (s, (tt, tt))) (agree p q))
 
 -- ---- page
 

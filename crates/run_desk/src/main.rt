@@ -11,6 +11,7 @@ use desk::Desk;
 use outcomes::{End, Progress};
 use program::Program;
 use streams::{Output, Source, Stopped, System};
+use text::Sheet;
 use wire::Refusal;
 
 fn main(rt: HostRuntime) {
@@ -61,13 +62,16 @@ fn take(system: System, desk: &mut Desk, list: &[u8], lists: u64) -> Result<(), 
 
 fn show_table(system: System, desk: Desk) -> Result<(), Stopped> {
     let mut out = [0u8; 130];
-    desk_output::put_table(desk, &mut out, 0);
+    desk_output::put_table(desk, &mut Sheet::on(&mut out, 0));
     system.write(Output::Standard, &out)
 }
 
+#[tactic(auto, unfolding(text::specs::Putting::put_on))]
 fn show_refused(system: System, refusal: Refusal, lists: u64) -> Result<(), Stopped> {
     let mut line = [0u8; 64];
-    let n = desk_output::put_refused(u8::from(refusal), lists, &mut line, 0);
+    let mut sheet = Sheet::on(&mut line, 0);
+    desk_output::put_refused(u8::from(refusal), lists, &mut sheet);
+    let n = sheet.at;
     system.write(Output::Errors, &line[..n])
 }
 

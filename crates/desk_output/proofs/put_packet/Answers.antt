@@ -1,6 +1,6 @@
 -- `put_packet`: the telegram fills the 26 bytes, and they are put one after another.
-use Rattle.kit.proofs.Put.{poured_as}
-use mathlib.Core.Path.{sym, ◌∙◌, refl}
+use mathlib.Core.Path.{ap, ◌∙◌, refl}
+use Rattle.text.specs.Putting.{put_on}
 use Rattle.wire.proofs.Results.{accepted_ok}
 use Rattle.telegram.proofs.Refusals.{packet-accepted, packet_fills}
 use Rattle.desk_output.proofs.put_packet.Goals as goal
@@ -9,8 +9,8 @@ pub returns : goal.returns
 returns c =
     let written = c.write.ensures.1 in
     let a = c.args in
-    poured_as (sym (written ∙ packet_fills (record { packet = a.packet; step = a.step; slots = a.slots }) _ c.requires.0 c.requires.1 refl))
     c.put_words.ensures
+    ∙ ap (λ bytes. put_on bytes c.args.sheet.now) (written ∙ packet_fills (record { packet = a.packet; step = a.step; slots = a.slots }) _ c.requires.0 c.requires.1 refl)
 
 -- a packet from 3 to 7 is never refused
 pub unwrap-requires : goal.unwrap-requires
