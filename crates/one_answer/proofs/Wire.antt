@@ -81,3 +81,6 @@ page-word_of κs handed answer other lasts others p q = (agree p q, refl)
 
 pub frames-call_size : OneAnswer frames-contracts.call_size.ended frames.call_size.Reads.Learnt
 frames-call_size κs handed answer other lasts others p q = (agree p q, refl)
+
+pub frames-first_size : OneAnswer frames-contracts.first_size.ended frames.first_size.Reads.Learnt
+frames-first_size κs handed answer other lasts others p q = (agree p q, refl)
