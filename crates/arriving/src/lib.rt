@@ -1,6 +1,6 @@
 // New orders arrive, in list order: each takes the lowest free slot and the first permitted number after the last one given. The list
-// is looked at as far as its first n orders; a desk hands in how many it has. It is no slice of n orders, since n may pass its end. Where no
-// slot is free the places stay as they are: of a desk that was made and a list that it accepts, every new order finds one
+// is looked at as far as its first n orders; a desk hands in how many it has. It is no slice of n orders, since n may pass its end. Where
+// no slot is free the places stay as they are: of a desk that was made and a list that it accepts, every new order finds one
 // (desk/proofs/Seating.antt).
 #![tactic(auto)]
 

@@ -1,5 +1,5 @@
 // The calls of an input, by an iterator.
-use crate::{LENGTH, call_size};
+use crate::{LENGTH, first_size};
 
 // One call: its length as it stands there, and its bytes.
 #[derive(Clone, Copy)]
@@ -36,7 +36,7 @@ impl<'a> Iterator for Calls<'a> {
         if self.rest.is_empty() {
             return None;
         }
-        let Some(size) = call_size(self.rest, self.bare) else {
+        let Some(size) = first_size(self.rest, self.bare) else {
             self.rest = &self.rest[..0];
             return Some(Err(Short));
         };

@@ -156,7 +156,9 @@ fn put_summary(state: State, tally: Tally, lister: Lister, out: &mut [u8]) -> us
 {
     let ended = outcomes::is_ended(state);
     if ended {
-        summary::put(tally, lister, out, 0)
+        let mut sheet = Sheet::on(out, 0);
+        summary::put(tally, lister, &mut sheet);
+        sheet.at
     } else {
         0
     }

@@ -4,8 +4,10 @@ use mathlib.Core.Path.{◌≡◌, refl, sym, ap, ◌∙◌, subst}
 use mathlib.Core.List.{List, [], ◌∷◌, ◌++◌, append_assoc, append-nil}
 use lib.ListN.{length, take, drop, replicate, length-append, length-replicate}
 use lib.Seq.{sets, sets-eq, take_at, take-append_seam, drop-append-add, drop-nil}
+use borrow.Rule.Slice.PartMut.{put_mid}
 use native.Mathlib.Omega.{arith}
 use Rattle.kit.specs.Put.{Poured}
+use Rattle.text.proofs.Copies.{part_sets}
 use Rattle.listener.specs.Answers.{Hearing}
 use Rattle.listener.specs.declared.Listener.{Listener}
 use Rattle.listing_tables.specs.Tables.{heard_lines, tables_of}
@@ -120,6 +122,15 @@ pub lines_none : {lister : Lister} {bytes : List ℕ} → Kept lister bytes → 
 lines_none {lister} {bytes} k = lines-part k [] (subst (λ (x : List ℕ). length x < 26) (sym (append-nil bytes)) k.short)
 
 -- ---- filling up the telegram in hand
+
+-- bytes copied into a part of the room for a telegram
+pub part_filled : {tail piece part : List ℕ} {kept count : ℕ} → length tail ≡ 26 → kept + length piece ≤ 26 → part ≡ piece → count ≡ length piece
+    → Poured tail kept piece (put_mid kept count tail part) (kept + length piece)
+part_filled {tail} {piece} {part} {kept} {count} long room same all =
+    record {
+      stored = part_sets tail part kept count (omega (arith, long, room, all)) (ap length same ∙ sym all) ∙ ap (sets tail kept) same;
+      past = omega (arith, long, room);
+    }
 
 abbrev zeros : ℕ → List ℕ
 zeros n = replicate n 0

@@ -33,11 +33,20 @@ here start bytes m same = subst⁻¹ MadeByPieces same (taken_piece m bytes)
 pub lacks : {lister : Lister} → MadeByPieces lister → lister.kept < 26
 lacks m = let kept = (made_kept m).1 in omega (arith, kept.short, kept.counted)
 
--- a piece in two parts
-pub two_parts : (start : Lister) {piece : List ℕ} (first second : List ℕ) → piece ≡ first ++ second → {between end : Lister} (before : Sheet) {middle after : Sheet}
+-- a piece in two parts, in a lent buffer
+pub two_parts : (start : Lister) {piece : List ℕ} (first second : List ℕ) → piece ≡ first ++ second → {between end : Lister} {l m n : List ℕ} {at i j : ℕ}
+    → (between ≡ take_of start first) × Poured l at (piece_lines start first) m i → (end ≡ take_of between second) × Poured m i (piece_lines between second) n j
+    → (end ≡ take_of start piece) × Poured l at (piece_lines start piece) n j
+two_parts start {piece} first second both (a, al) (b, bl) = (
+  b ∙ (ap (λ s. take_of s second) a ∙ (sym (take-then start first second) ∙ ap (take_of start) (sym both))),
+  poured_as (ap (piece_lines start) both ∙ (lines-of-then start first second ∙ ap (λ s. piece_lines start first ++ piece_lines s second) (sym a))) (poured-then al bl),
+)
+
+-- and on a sheet
+pub parts_on : (start : Lister) {piece : List ℕ} (first second : List ℕ) → piece ≡ first ++ second → {between end : Lister} (before : Sheet) {middle after : Sheet}
     → (between ≡ take_of start first) × (middle ≡ put_on (piece_lines start first) before) → (end ≡ take_of between second) × (after ≡ put_on (piece_lines between second) middle)
     → (end ≡ take_of start piece) × (after ≡ put_on (piece_lines start piece) before)
-two_parts start {piece} first second both {between} before (a, al) (b, bl) =
+parts_on start {piece} first second both {between} before (a, al) (b, bl) =
     let parts : piece_lines start piece ≡ piece_lines start first ++ piece_lines between second =
     ap (piece_lines start) both ∙ (lines-of-then start first second ∙ ap (λ s. piece_lines start first ++ piece_lines s second) (sym a)) in (
       b ∙ (ap (λ s. take_of s second) a ∙ (sym (take-then start first second) ∙ ap (take_of start) (sym both))),

@@ -83,8 +83,8 @@ pub fn is_marked(memory: &[u8; 310], i: usize) -> bool
     i < SLOTS && memory[MARKS + i] != 0
 }
 
-// The table whose bytes begin at `from`, made by `from_fn`, since there is no array of slots that a `map` could go over. It asks for room, and
-// those who call this crate are asked for nothing: so each of the two places that a table has is a function of its own, here and in putting.
+// The table whose bytes begin at `from`, made by `from_fn`, since there is no array of slots that a `map` could go over. It asks for room,
+// and who calls this crate is asked for nothing: each of the two places that a table has is a function of its own, here and in putting.
 fn table_at(memory: &[u8; 310], from: usize) -> [Slot; 20]
     requires { from + 140 ≤ 310 }
     ensures { result ≡ table_at memory.now from }

@@ -94,7 +94,7 @@ pub summary-take : OneAnswer summary-contracts.Tally.take.ended summary.Tally.ta
 summary-take κs handed answer other lasts others p q = (agree p q, refl)
 
 pub summary-put : OneAnswer summary-contracts.put.ended summary.put.Reads.Learnt
-summary-put κs handed answer other lasts others p q = given (agree-poured p q) (λ (place, bytes). (place, ap (λ b. (tt, (tt, (b, (tt, tt))))) bytes))
+summary-put κs handed answer other lasts others p q = (refl, ap (λ sheet. (tt, (tt, (sheet, tt)))) (agree p q))
 
 -- ---- listing_length
 

@@ -82,10 +82,10 @@ signals_in_place-lend_and_update_by κs handed answer other lasts others p q = (
 -- ---- signals_output
 
 pub signals_output-put_line : OneAnswer signals-output-contracts.put_line.ended signals-output.put_line.Reads.Learnt
-signals_output-put_line κs handed answer other lasts others p q = given (agree-poured p q) (λ (place, bytes). (place, ap (λ b. (tt, (b, (tt, tt)))) bytes))
+signals_output-put_line κs handed answer other lasts others p q = (refl, ap (λ s. (tt, (s, tt))) (agree p q))
 
 pub signals_output-put_short : OneAnswer signals-output-contracts.put_short.ended signals-output.put_short.Reads.Learnt
-signals_output-put_short κs handed answer other lasts others p q = given (agree-poured p q) (λ (place, bytes). (place, ap (λ b. (b, (tt, tt))) bytes))
+signals_output-put_short κs handed answer other lasts others p q = (refl, ap (λ s. (s, tt)) (agree p q))
 
 -- ---- signal_runs
 

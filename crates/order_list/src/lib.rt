@@ -33,16 +33,16 @@ pub fn order_at(list: &[u8], j: u8) -> Order
     }
 }
 
-// Which of the first n orders of a list has this order number, the first that has it. A list and n, and no slice of n orders: n may pass the
-// list's end, and what is promised of the orders past it, which are of zeros, a slice could not say.
+// Which of the first n orders of a list has this order number, the first that has it. A list and n, and no slice of n orders: n may pass
+// the list's end, and what is promised of the orders past it, which are of zeros, a slice could not say.
 pub fn listed_at(list: &[u8], n: u8, number: u32) -> Option<u8>
     ensures { result ≡ index_below n (listed_at list.now n number) }
 {
     (0..n).find(|j| order_at(list, *j).number == number)
 }
 
-// The order numbers of the first twenty orders of a list; 0 past its end. By `from_fn`, since a list is bytes and no array that a `map` could
-// go over.
+// The order numbers of the first twenty orders of a list; 0 past its end. By `from_fn`, since a list is bytes and no array that a `map`
+// could go over.
 pub fn numbers_of(list: &[u8]) -> [u32; 20]
     ensures { result ≡ numbers_of list.now }
 {

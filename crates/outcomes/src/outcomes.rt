@@ -3,8 +3,8 @@
 ghost use Rattle.std.specs.Prelude.{◌≡◌};
 ghost use Rattle.outcomes.specs.Outcomes.{after_read, after_write, is_again, is_over, is_failed, is_ended};
 
-// Go on; do it again; the input has ended; it failed. Own cases and no Result: which of them is an error is another thing for a read than for
-// a write, and `is_again`, `is_ended`, `is_failed` and `is_over` answer of each.
+// Go on; do it again; the input has ended; it failed. Own cases and no Result: which of them is an error is another thing for a read than
+// for a write, and `is_again`, `is_ended`, `is_failed` and `is_over` answer of each.
 #[derive(Clone, Copy, Debug, PartialEq, Eq)]
 pub enum State {
     More,
@@ -20,7 +20,8 @@ pub struct Moved {
     pub state: State,
 }
 
-// What follows a read that moved so many bytes.
+// What follows a read that moved so many bytes. Flags and no Result, here and below: that would leave out calls that moved some and failed,
+// and of those, too, it is promised what follows.
 pub fn read_of(count: usize, failed: bool, interrupted: bool) -> State
     ensures { result ≡ after_read count failed interrupted }
 {

@@ -7,8 +7,7 @@ use borrow.Author.Tests.{leb-true, leb-false}
 use Rattle.kit.proofs.Cases.{on}
 use Rattle.kit.proofs.Contracts.{agree}
 use mathlib.Core.List.{List, [], ◌++◌, append-nil, append_assoc}
-use Rattle.std.specs.Int.{w32, to_be_bytes}
-use lib.ListN.{length, get_or, take, drop, length-append}
+use lib.ListN.{length, take, drop, length-append}
 use lib.Seq.{sets, take_all, sets-eq, length-take-le, take-append-le, take-append-add}
 use native.Mathlib.Omega.{arith}
 use Rattle.kit.specs.Each.{each}
@@ -21,7 +20,7 @@ use Rattle.page.specs.Words.{bytes_of_word}
 use Rattle.page.specs.declared.Word.{Word}
 use Rattle.text.specs.Hexadecimals.{hexadecimal}
 use Rattle.text.proofs.Numerals.{hexadecimal-long}
-use Rattle.page.proofs.Packed.{low-length, low-take, hex_pair, eight_hex}
+use Rattle.page.proofs.Packed.{low-length, low-take}
 
 pub paged-none : {l : List ℕ} {i : ℕ} → Paged 0 l i [] l i
 paged-none {l} {i} = record { held = sym (append-nil (take i l)); past = omega arith; within = omega arith }
@@ -93,29 +92,11 @@ take_min n most l long =
 
 -- ---- with a test of the room
 
--- the lowest bytes of a number are stored, and the first ones of them put
-pub ruleset lows = (low-length, paged-low)
-
--- the digits of four bytes are stored, one byte's after another's
-pub digits_stored : (l bytes : List ℕ) (i number : ℕ) {m n o p : List ℕ} → bytes ≡ to_be_bytes w32 number → m ≡ sets l i (hex_pair (get_or bytes 0 0))
-    → n ≡ sets m (i + 2) (hex_pair (get_or bytes 1 0)) → o ≡ sets n (i + 4) (hex_pair (get_or bytes 2 0)) → p ≡ sets o (i + 6) (hex_pair (get_or bytes 3 0))
-    → p ≡ sets l i (hexadecimal 8 number)
-digits_stored l bytes i number same first second third fourth =
-    let of : ℕ → List ℕ = λ k. hex_pair (get_or bytes k 0) in
-    let two = sets-twice l i (of 0) (of 1) first refl second in
-    let three = sets-twice l i (of 0 ++ of 1) (of 2) two refl third in
-    let four = sets-twice l i ((of 0 ++ of 1) ++ of 2) (of 3) three refl fourth in
-    four
-    ∙ (ap (λ b. sets l i (((hex_pair (get_or b 0 0) ++ hex_pair (get_or b 1 0)) ++ hex_pair (get_or b 2 0)) ++ hex_pair (get_or b 3 0))) same
-    ∙ ap (sets l i) (eight_hex number))
-
 -- eight digits are stored, and all of them are put
 pub paged-digits : (l : List ℕ) (i number : ℕ) {m : List ℕ} → i + 8 ≤ length l → m ≡ sets l i (hexadecimal 8 number) → Paged 8 l i (hexadecimal 8 number) m (i + 8)
 paged-digits l i number room same =
     let long : length (hexadecimal 8 number) ≡ 8 = hexadecimal-long 8 number in
     paged_as (sym (take_all 8 (hexadecimal 8 number) (omega arith))) (paged-stored l i (hexadecimal 8 number) 8 (omega arith) (omega arith) same)
-
-pub ruleset digits = (hexadecimal-long, paged-digits)
 
 -- sixteen bytes are stored, eight and eight, and the first ones of them put
 pub laid_word : (word : Word) {l m n : List ℕ} {i few : ℕ} → true ≡ leb (i + 16) (length l) → m ≡ sets l i (low_bytes 8 word.low) → n ≡ sets m (i + 8) (low_bytes 8 word.high)

@@ -11,7 +11,7 @@ use native.Mathlib.Omega.{arith}
 use borrow.Author.Tests.{leb-true}
 use Rattle.kit.specs.Each.{each}
 use Rattle.text.specs.Hexadecimals.{hexadecimal}
-use Rattle.text.specs.Putting.{holding, put_on}
+use Rattle.text.specs.Putting.{sheet_with, put_on}
 use Rattle.text.proofs.Numerals.{hexadecimal-long}
 use Rattle.text.proofs.Putting.{put_next}
 use Rattle.text.specs.declared.sheets.Sheet.{Sheet}
@@ -28,7 +28,7 @@ pub on-none : {sheet : Sheet} → PagedOn 0 [] sheet sheet
 on-none = record { same = refl; long = refl; paged = paged-none }
 
 pub on-then : {x y : ℕ} {a b : List ℕ} {s t u : Sheet} → PagedOn x a s t → PagedOn y b t u → PagedOn (x + y) (a ++ b) s u
-on-then {u = u} p q = record { same = q.same ∙ ap (holding u.buffer.now u.at) p.same; long = q.long ∙ p.long; paged = paged-then p.paged q.paged }
+on-then {u = u} p q = record { same = q.same ∙ ap (sheet_with u.buffer.now u.at) p.same; long = q.long ∙ p.long; paged = paged-then p.paged q.paged }
 
 -- the same bytes under another name
 pub on_as : {x : ℕ} {a b : List ℕ} {s t : Sheet} → a ≡ b → PagedOn x b s t → PagedOn x a s t
@@ -45,7 +45,7 @@ on_tight le p = record { same = p.same; long = p.long; paged = paged_tight le p.
 -- one thing's bytes after those of the i things before it
 pub on-each : (of : ℕ → List ℕ) (i : ℕ) {x y z : ℕ} {s t u : Sheet} → x + y ≤ z → PagedOn x (each of 0 i) s t → PagedOn y (of i) t u
     → PagedOn z (each of 0 (i + 1)) s u
-on-each of i {u = u} room p q = record { same = q.same ∙ ap (holding u.buffer.now u.at) p.same; long = q.long ∙ p.long; paged = paged-each of i room p.paged q.paged }
+on-each of i {u = u} room p q = record { same = q.same ∙ ap (sheet_with u.buffer.now u.at) p.same; long = q.long ∙ p.long; paged = paged-each of i room p.paged q.paged }
 
 -- ---- with a test of the room
 
@@ -74,9 +74,9 @@ unfolding put_on
 past_on bytes s e room = ap (λ (t : Sheet). t.at) e ∙ omega arith
 
 -- the place is then set to the end of what has a meaning
-set_on : (bytes : List ℕ) (s : Sheet) {t : Sheet} (end : ℕ) → t ≡ put_on bytes s → record { buffer = t.buffer; at = end } ≡ holding t.buffer.now end s
+set_on : (bytes : List ℕ) (s : Sheet) {t : Sheet} (end : ℕ) → t ≡ put_on bytes s → record { buffer = t.buffer; at = end } ≡ sheet_with t.buffer.now end s
 unfolding put_on
-set_on bytes s end e = ap (λ (t : Sheet). record { buffer = t.buffer; at = end }) e ∙ ap (λ l. holding l end s) (sym (ap (λ (t : Sheet). t.buffer.now) e))
+set_on bytes s end e = ap (λ (t : Sheet). record { buffer = t.buffer; at = end }) e ∙ ap (λ l. sheet_with l end s) (sym (ap (λ (t : Sheet). t.buffer.now) e))
 
 -- eight bytes of a number are stored, and the first of them put
 pub laid_eight : (piece count : ℕ) (s : Sheet) {t : Sheet} → true ≡ leb (s.at + 8) (length s.buffer.now) → count ≤ 8 → t ≡ put_on (low_bytes 8 piece) s
@@ -141,4 +141,4 @@ digits_put bytes number s same first second third fourth =
 pub agree_laid_on : {w x : ℕ} {a b : List ℕ} {s t u : Sheet} → LaidOn w x a b s t → LaidOn w x a b s u → t ≡ u
 agree_laid_on {s = s} {t} {u} p q =
     let alike = agree_laid p.laid q.laid in
-    p.same ∙ (ap₂ (λ bytes at. holding bytes at s) alike.1 alike.0 ∙ sym q.same)
+    p.same ∙ (ap₂ (λ bytes at. sheet_with bytes at s) alike.1 alike.0 ∙ sym q.same)

@@ -2,7 +2,7 @@
 -- bytes may store more than it puts.
 use Rattle.std.specs.Prelude.{ℕ, ◌+◌, ◌≤◌, ◌≡◌, cond, List, ◌++◌, leb, length, take}
 use Rattle.std.proofs.lemmas.List.Edits.{sets}
-use Rattle.text.specs.Putting.{holding}
+use Rattle.text.specs.Putting.{sheet_with}
 use Rattle.text.specs.declared.sheets.Sheet.{Sheet}
 
 -- `bytes`, which are never more than `most`, were put on the page `before` from index `at` on, which made it `after`; `next` is the place
@@ -26,11 +26,11 @@ abbrev pub room_for : ℕ → Sheet → Type 0
 room_for width sheet = sheet.at + width ≤ length sheet.buffer.now
 
 pub record PagedOn (most : ℕ) (bytes : List ℕ) (before after : Sheet) : Type 0 where
-  pub same : after ≡ holding after.buffer.now after.at before
+  pub same : after ≡ sheet_with after.buffer.now after.at before
   pub long : length after.buffer.now ≡ length before.buffer.now
   pub paged : Paged most before.buffer.now before.at bytes after.buffer.now after.at
 
 pub record LaidOn (width most : ℕ) (bytes stored : List ℕ) (before after : Sheet) : Type 0 where
-  pub same : after ≡ holding after.buffer.now after.at before
+  pub same : after ≡ sheet_with after.buffer.now after.at before
   pub long : length after.buffer.now ≡ length before.buffer.now
   pub laid : Laid width most before.buffer.now before.at bytes stored after.buffer.now after.at

@@ -26,13 +26,7 @@ fn put_version(program: Program, sheet: &mut Sheet<'_>)
 
 // A line on an argument: the words before it and those after it.
 #[tactic(auto, unfolding(crate::specs::Answers::complaint_of), using(text::proofs::Putting::put_next))]
-fn put_complaint(
-    program: Program,
-    before: &[u8],
-    word: &[u8],
-    after: &[u8],
-    sheet: &mut Sheet<'_>,
-)
+fn put_complaint(program: Program, before: &[u8], word: &[u8], after: &[u8], sheet: &mut Sheet<'_>)
     ensures { sheet.new ≡ put_on (complaint_of program before.now word.now after.now) sheet.old }
 {
     put_name(program, sheet);

@@ -1,6 +1,6 @@
 // What a program's arguments ask for.
 ghost use Rattle.std.specs.Prelude.{◌≡◌};
-ghost use Rattle.program.specs.Arguments.{is_option, argument_of, is_work, has_summary, nothing_asked, decided_by, with_input, with_summary, with_progress, by_argument, asked_with};
+ghost use Rattle.program.specs.Arguments.{argument_of, is_work, has_summary, nothing_asked, decided_by, with_input, with_summary, with_progress, by_argument, asked_with};
 
 use crate::names::Program;
 
@@ -40,34 +40,18 @@ pub struct Asked {
     pub progress: bool,
 }
 
-// Whether a text begins with a hyphen, as options do.
-#[tactic(auto, unfolding(crate::specs::Arguments::is_option))]
-fn is_option(text: &[u8]) -> bool
-    ensures { result ≡ is_option text.now }
-{
-    text.first() == Some(&b'-')
-}
-
-// No match on the texts: tried, and its proof splits into some forty goals, by their lengths. And no `==`: it takes two slices, so that
-// each word would be followed by `.as_slice()`.
-#[tactic(auto, unfolding(crate::specs::Arguments::argument_of, kit::specs::Ladder::ladder))]
+#[tactic(auto, unfolding(crate::specs::Arguments::argument_of, crate::specs::Arguments::is_option, kit::specs::Ladder::ladder, same_text::specs::Same::is_same_text, kit::specs::Loops::scan))]
 pub fn argument_of(text: &[u8]) -> Argument
     ensures { result ≡ argument_of text.now }
 {
-    if same_text::is_same(text, b"-") {
-        Argument::Standard
-    } else if same_text::is_same(text, b"--help") {
-        Argument::Help
-    } else if same_text::is_same(text, b"--version") {
-        Argument::Version
-    } else if same_text::is_same(text, b"--summary") {
-        Argument::Summary
-    } else if same_text::is_same(text, b"--progress") {
-        Argument::Progress
-    } else if is_option(text) {
-        Argument::Unknown
-    } else {
-        Argument::Name
+    match text {
+        b"-" => Argument::Standard,
+        b"--help" => Argument::Help,
+        b"--version" => Argument::Version,
+        b"--summary" => Argument::Summary,
+        b"--progress" => Argument::Progress,
+        [b'-', ..] => Argument::Unknown,
+        _ => Argument::Name,
     }
 }
 
@@ -104,76 +88,76 @@ impl Asked {
         ensures { result ≡ asked_with program self argument at }
     {
         if is_work(self.task) {
-            by_argument(self, program, argument, at)
+            self.by_argument(program, argument, at)
         } else {
             self
         }
     }
-}
 
-// What one argument more asks for, where all before it ask for the work.
-fn by_argument(asked: Asked, program: Program, argument: Argument, at: usize) -> Asked
-    ensures { result ≡ by_argument program asked argument at }
-{
-    match argument {
-        Argument::Standard => with_input(asked, None, at),
-        Argument::Help => decided(asked, Task::ShowHelp, at),
-        Argument::Version => decided(asked, Task::ShowVersion, at),
-        Argument::Summary => with_summary(asked, program, at),
-        Argument::Progress => with_progress(asked),
-        Argument::Unknown => decided(asked, Task::NotUnderstood, at),
-        Argument::Name => with_input(asked, Some(at), at),
+    // What one argument more asks for, where all before it ask for the work.
+    fn by_argument(self, program: Program, argument: Argument, at: usize) -> Self
+        ensures { result ≡ by_argument program self argument at }
+    {
+        match argument {
+            Argument::Standard => self.with_input(None, at),
+            Argument::Help => self.decided(Task::ShowHelp, at),
+            Argument::Version => self.decided(Task::ShowVersion, at),
+            Argument::Summary => self.with_summary(program, at),
+            Argument::Progress => self.with_progress(),
+            Argument::Unknown => self.decided(Task::NotUnderstood, at),
+            Argument::Name => self.with_input(Some(at), at),
+        }
     }
-}
 
-fn decided(asked: Asked, task: Task, at: usize) -> Asked
-    ensures { result ≡ decided_by asked task at }
-{
-    Asked {
-        task,
-        at: Some(at),
-        ..asked
+    fn decided(self, task: Task, at: usize) -> Self
+        ensures { result ≡ decided_by self task at }
+    {
+        Asked {
+            task,
+            at: Some(at),
+            ..self
+        }
     }
-}
 
-// With its input, a file or standard input, where none was named before.
-fn with_input(asked: Asked, file: Option<usize>, at: usize) -> Asked
-    ensures { result ≡ with_input asked file at }
-{
-    if asked.given {
-        return decided(asked, Task::OneInputOnly, at);
+    // With its input, a file or standard input, where none was named before.
+    fn with_input(self, file: Option<usize>, at: usize) -> Self
+        ensures { result ≡ with_input self file at }
+    {
+        if self.given {
+            return self.decided(Task::OneInputOnly, at);
+        }
+        Asked {
+            task: Task::Work,
+            at: None,
+            given: true,
+            file,
+            ..self
+        }
     }
-    Asked {
-        task: Task::Work,
-        at: None,
-        given: true,
-        file,
-        ..asked
-    }
-}
 
-// With a summary, where the program has one.
-fn with_summary(asked: Asked, program: Program, at: usize) -> Asked
-    ensures { result ≡ with_summary program asked at }
-{
-    if !has_summary(program) {
-        return decided(asked, Task::NotUnderstood, at);
+    // With a summary, where the program has one.
+    fn with_summary(self, program: Program, at: usize) -> Self
+        ensures { result ≡ with_summary program self at }
+    {
+        if !has_summary(program) {
+            return self.decided(Task::NotUnderstood, at);
+        }
+        Asked {
+            task: Task::Work,
+            at: None,
+            summary: true,
+            ..self
+        }
     }
-    Asked {
-        task: Task::Work,
-        at: None,
-        summary: true,
-        ..asked
-    }
-}
 
-fn with_progress(asked: Asked) -> Asked
-    ensures { result ≡ with_progress asked }
-{
-    Asked {
-        task: Task::Work,
-        at: None,
-        progress: true,
-        ..asked
+    fn with_progress(self) -> Self
+        ensures { result ≡ with_progress self }
+    {
+        Asked {
+            task: Task::Work,
+            at: None,
+            progress: true,
+            ..self
+        }
     }
 }

@@ -16,6 +16,7 @@ pub enum Doing {
     TakingArgument,
 }
 
+// By a match that puts, and no text for each case, since two have a name behind it.
 #[tactic(auto, using(text::proofs::Putting::put_next))]
 fn put_words_of(doing: Doing, name: &[u8], sheet: &mut Sheet<'_>)
     ensures { sheet.new ≡ put_on (doing_words doing name.now) sheet.old }

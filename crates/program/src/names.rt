@@ -12,6 +12,7 @@ pub enum Program {
     ReadSignals,
 }
 
+// By a match, as the other texts of a program are: a table of texts would rest on the order of the cases.
 fn name(program: Program) -> &'static [u8]
     ensures { result.now ≡ name_of program }
 {

@@ -35,11 +35,21 @@ use Rattle.summary.proofs.Steps.{made-below}
 
 -- ---- the counts are such that a number of 64 bits packet_held them
 
-pub row_fits : (Fits : Refusals → Type 0) (of : ℕ → Refusals) → ((number : ℕ) → Fits (of number)) → Fits none_refused → (i : ℕ) → Fits (get_or (for_each_number of) i none_refused)
-row_fits Fits of each none i =
-    on (ltb i 16)
-    (λ inside. subst⁻¹ Fits (row_at none_refused of i (ltb-true i 16 inside)) (each i))
-    (λ past. subst⁻¹ Fits (get_or-eq_default (for_each_number of) none_refused {n = i} (omega (arith, row-long of, ltb-false i 16 past))) none)
+module _ {A : Type 0} (other : A) (Fits : A → Type 0) where
+  pub row_fits : (of : ℕ → A) → ((number : ℕ) → Fits (of number)) → Fits other → (i : ℕ) → Fits (get_or (for_each_number of) i other)
+  row_fits of each none i =
+      on (ltb i 16)
+      (λ inside. subst⁻¹ Fits (row_at other of i (ltb-true i 16 inside)) (each i))
+      (λ past. subst⁻¹ Fits (get_or-eq_default (for_each_number of) other {n = i} (omega (arith, row-long of, ltb-false i 16 past))) none)
+
+  one-fits : (value : A) → Fits value → (i : ℕ) → i < length (value ∷ []) → Fits (get_or (value ∷ []) i other)
+  one-fits value own zero p = own
+  one-fits value own (suc i) p = absurd (omega arith)
+
+  store_fits : (so : Bool) (row : List A) (at : ℕ) (value : A) → ((i : ℕ) → Fits (get_or row i other)) → Fits value
+      → (i : ℕ) → Fits (get_or (store_if so row at value) i other)
+  store_fits so row at value fits own i =
+      on so (λ e. rw e (sets-each other Fits (value ∷ []) row at (one-fits value own) fits i)) (λ e. rw e (fits i))
 
 -- what a row's places say of the counts and of the places
 abbrev pub CountFits : Refusals → Type 0
@@ -55,24 +65,15 @@ tally-fits told =
       telegrams = omega arith;
       tables = omega arith;
       repeats = omega arith;
-      refused = row_fits CountFits (refusals_told told) (λ number. omega arith) (omega arith);
-      first = row_fits FirstFits (refusals_told told) (λ number. omega arith) (omega arith);
+      refused = row_fits none_refused CountFits (refusals_told told) (λ number. omega arith) (omega arith);
+      first = row_fits none_refused FirstFits (refusals_told told) (λ number. omega arith) (omega arith);
     }
 
 first_fits : (known place : ℕ) → known ≤ most_tables → place ≤ most_tables → known_or known place ≤ most_tables
 first_fits known place a b = on (eqb known 0) (λ e. rw e b) (λ e. rw e a)
 
-one-fits : (Fits : Refusals → Type 0) (value : Refusals) → Fits value → (i : ℕ) → i < length (value ∷ []) → Fits (get_or (value ∷ []) i none_refused)
-one-fits Fits value own zero p = own
-one-fits Fits value own (suc i) p = absurd (omega arith)
-
 more-fits : (so : Bool) (count : ℕ) → count ≤ most_tables → more_if so count ≤ most_tables
 more-fits so count most = on so (λ e. rw e (omega arith)) (λ e. rw e most)
-
-store_fits : (Fits : Refusals → Type 0) (so : Bool) (row : List Refusals) (at : ℕ) (value : Refusals) → ((i : ℕ) → Fits (get_or row i none_refused)) → Fits value
-    → (i : ℕ) → Fits (get_or (store_if so row at value) i none_refused)
-store_fits Fits so row at value fits own i =
-    on so (λ e. rw e (sets-each none_refused Fits (value ∷ []) row at (one-fits Fits value own) fits i)) (λ e. rw e (fits i))
 
 pub counted-fits : (tally : Tally) → Countable tally → (told : Told) → Countable (counted tally told)
 unfolding counted
@@ -85,8 +86,8 @@ counted-fits tally fits told =
       telegrams = omega arith;
       tables = more-fits (took_table told) tally.tables fits.tables;
       repeats = more-fits (was_repeat told) tally.repeats fits.repeats;
-      refused = store_fits CountFits (was_refused told) tally.refused number more fits.refused (omega arith);
-      first = store_fits FirstFits (was_refused told) tally.refused number more fits.first (first_fits known.first place (fits.first number) (omega arith));
+      refused = store_fits none_refused CountFits (was_refused told) tally.refused number more fits.refused (omega arith);
+      first = store_fits none_refused FirstFits (was_refused told) tally.refused number more fits.first (first_fits known.first place (fits.first number) (omega arith));
     }
 
 all-fits : (tally : Tally) → Countable tally → (told : List Told) → Countable (counted_all tally told)

@@ -1,21 +1,20 @@
 // The summary of a recording: how many telegrams, tables, repeats and refusals it has, counted beside the listing and only where it is
-// asked for, and its text in a lent buffer.
+// asked for, and its text on a sheet.
 #![tactic(auto)]
 
 ghost use Rattle.std.specs.Prelude.{◌≡◌, []};
-ghost use Rattle.kit.specs.Loops.{any};
-ghost use Rattle.kit.specs.Put.{Poured};
-ghost use Rattle.telegram.specs.Tables.{packets};
+ghost use Rattle.text.specs.Putting.{put_on};
 ghost use Rattle.listener.specs.Answers.{refused_as, told_of};
 ghost use Rattle.lister.specs.Pieces.{MadeByPieces};
 ghost use Rattle.summary.specs.Counts.{tally_of};
 ghost use Rattle.summary.specs.Tallies.{counted, counted_piece};
-ghost use Rattle.summary.specs.Summaries.{with_number, count_line, count_lines, refusal_line, refusal_part, refusal_parts, packet_part, packet_parts, unfinished_line, unfinished_part, tail_part, summary_of};
+ghost use Rattle.summary.specs.Summaries.{with_number, count_line, count_lines, refusal_part, refusal_parts, packet_part, packet_parts, unfinished_part, tail_part, summary_of};
 
 use hand::Hand;
 use listener::Answer;
 use lister::Lister;
 use telegram::LENGTH;
+use text::{LINE_FEED, Sheet};
 
 // How many telegrams were refused under a number, and the place of the first of them, counted from 1, or 0 where there was none. No Option
 // of a place: `Tally::count` and `put` take whatever a record holds, and a count without a place is such a record.
@@ -82,7 +81,7 @@ impl Tally {
         };
         let mut memory = listener::memory_of(lister.listener);
         let mut first = lister.tail;
-        text::put_words(&mut first, lister.kept, end);
+        first[lister.kept..].copy_from_slice(end);
         let mut tally = self.count(lister::hear_in(&mut memory, &first));
         for telegram in rest.chunks_exact(LENGTH) {
             tally = tally.count(lister::hear_in(&mut memory, telegram));
@@ -109,127 +108,104 @@ fn refuse(mut tally: Tally, number: u8) -> Tally
 }
 
 // Words, and a number after them.
-fn put_numbered(words: &[u8], number: u64, out: &mut [u8], at: usize) -> usize
-    ensures { Poured out.old at (with_number words.now number) out.new result }
+#[tactic(auto, using(text::proofs::Putting::put_next))]
+fn put_numbered(words: &[u8], number: u64, sheet: &mut Sheet<'_>)
+    ensures { sheet.new ≡ put_on (with_number words.now number) sheet.old }
 {
-    let next = text::put_words(out, at, words);
-    text::put_decimal(out, next, number)
+    sheet.put_words(words);
+    sheet.put_decimal(number);
 }
 
 // A word, a count and a line feed.
-fn put_count(word: &[u8], count: u64, out: &mut [u8], at: usize) -> usize
-    ensures { Poured out.old at (count_line word.now count) out.new result }
+#[tactic(auto, using(text::proofs::Putting::put_next))]
+fn put_count(word: &[u8], count: u64, sheet: &mut Sheet<'_>)
+    ensures { sheet.new ≡ put_on (count_line word.now count) sheet.old }
 {
-    let next = put_numbered(word, count, out, at);
-    text::put_words(out, next, b"\n")
+    put_numbered(word, count, sheet);
+    sheet.put_byte(LINE_FEED);
 }
 
 // How many telegrams, tables and repeats.
-fn put_counts(tally: &Tally, out: &mut [u8], at: usize) -> usize
-    ensures { Poured out.old at (count_lines tally.now.telegrams tally.now.tables tally.now.repeats) out.new result }
+#[tactic(auto, unfolding(crate::specs::Summaries::count_lines), using(text::proofs::Putting::put_next))]
+fn put_counts(tally: &Tally, sheet: &mut Sheet<'_>)
+    ensures { sheet.new ≡ put_on (count_lines tally.now.telegrams tally.now.tables tally.now.repeats) sheet.old }
 {
-    let second = put_count(b"telegrams ", tally.telegrams, out, at);
-    let third = put_count(b"tables ", tally.tables, out, second);
-    put_count(b"repeats ", tally.repeats, out, third)
+    put_count(b"telegrams ", tally.telegrams, sheet);
+    put_count(b"tables ", tally.tables, sheet);
+    put_count(b"repeats ", tally.repeats, sheet);
 }
 
-// `refused R: N, first at telegram P`.
-fn put_refused(number: u64, refused: Refusals, out: &mut [u8], at: usize) -> usize
-    ensures { Poured out.old at (refusal_line number refused.count refused.first) out.new result }
+// `refused R: N, first at telegram P`, where some are refused under the number.
+#[tactic(auto, unfolding(crate::specs::Summaries::refusal_part, crate::specs::Summaries::refusal_line), using(text::proofs::Putting::put_next, text::proofs::Putting::put_none))]
+fn put_refusal(number: u64, refused: Refusals, sheet: &mut Sheet<'_>)
+    ensures { sheet.new ≡ put_on (refusal_part number refused.count refused.first) sheet.old }
 {
-    let second = put_numbered(b"refused ", number, out, at);
-    let third = put_numbered(b": ", refused.count, out, second);
-    let fourth = put_numbered(b", first at telegram ", refused.first, out, third);
-    text::put_words(out, fourth, b"\n")
-}
-
-// That line where some are refused under the number.
-#[tactic(auto, unfolding(crate::specs::Summaries::refusal_part))]
-fn put_refusal(number: u64, refused: Refusals, out: &mut [u8], at: usize) -> usize
-    ensures { Poured out.old at (refusal_part number refused.count refused.first) out.new result }
-{
-    if refused.count == 0 {
-        at.min(out.len())
-    } else {
-        put_refused(number, refused, out, at)
+    if refused.count != 0 {
+        put_numbered(b"refused ", number, sheet);
+        put_numbered(b": ", refused.count, sheet);
+        put_numbered(b", first at telegram ", refused.first, sheet);
+        sheet.put_byte(LINE_FEED);
     }
 }
 
 // For each number, ascending.
-fn put_refusals(tally: &Tally, out: &mut [u8], at: usize) -> usize
-    ensures { Poured out.old at (refusal_parts tally.now.refused) out.new result }
+fn put_refusals(tally: &Tally, sheet: &mut Sheet<'_>)
+    ensures { sheet.new ≡ put_on (refusal_parts tally.now.refused) sheet.old }
 {
-    let mut next = at.min(out.len());
     for (number, refused) in tally.refused.iter().enumerate() {
-        next = put_refusal(number as u64, *refused, out, next);
+        put_refusal(number as u64, *refused, sheet);
     }
-    next
 }
 
 // A packet that is held, after a blank.
-#[tactic(auto, unfolding(crate::specs::Summaries::packet_part))]
-fn put_packet(is_held: bool, packet: u64, out: &mut [u8], at: usize) -> usize
-    ensures { Poured out.old at (packet_part is_held packet) out.new result }
+#[tactic(auto, unfolding(crate::specs::Summaries::packet_part), using(text::proofs::Putting::put_none))]
+fn put_packet(is_held: bool, packet: u64, sheet: &mut Sheet<'_>)
+    ensures { sheet.new ≡ put_on (packet_part is_held packet) sheet.old }
 {
     if is_held {
-        put_numbered(b" ", packet, out, at)
-    } else {
-        at.min(out.len())
+        put_numbered(b" ", packet, sheet);
     }
 }
 
 // The packets that are held, ascending.
-fn put_packets(held: [bool; 5], out: &mut [u8], at: usize) -> usize
-    ensures { Poured out.old at (packet_parts held) out.new result }
+fn put_packets(held: [bool; 5], sheet: &mut Sheet<'_>)
+    ensures { sheet.new ≡ put_on (packet_parts held) sheet.old }
 {
-    let mut next = at.min(out.len());
     for (k, is_held) in held.iter().enumerate() {
-        next = put_packet(*is_held, k as u64 + 3, out, next);
+        put_packet(*is_held, k as u64 + 3, sheet);
     }
-    next
 }
 
-// `unfinished: step S, packets A B C`.
-fn put_set(step: u16, held: [bool; 5], out: &mut [u8], at: usize) -> usize
-    ensures { Poured out.old at (unfinished_line step held) out.new result }
-{
-    let second = put_numbered(b"unfinished: step ", step as u64, out, at);
-    let third = text::put_words(out, second, b", packets");
-    let fourth = put_packets(held, out, third);
-    text::put_words(out, fourth, b"\n")
-}
-
-// That line where a set is in hand.
-fn put_unfinished(hand: Hand, out: &mut [u8], at: usize) -> usize
-    ensures { Poured out.old at (unfinished_part hand) out.new result }
+// `unfinished: step S, packets A B C`, where a set is in hand.
+fn put_unfinished(hand: Hand, sheet: &mut Sheet<'_>)
+    ensures { sheet.new ≡ put_on (unfinished_part hand) sheet.old }
 {
     if hand.held.contains(&true) {
-        put_set(hand.step, hand.held, out, at)
-    } else {
-        at.min(out.len())
+        put_numbered(b"unfinished: step ", hand.step.into(), sheet);
+        sheet.put_words(b", packets");
+        put_packets(hand.held, sheet);
+        sheet.put_byte(LINE_FEED);
     }
 }
 
 // `tail of N bytes` where some are left.
-#[tactic(auto, unfolding(crate::specs::Summaries::tail_part))]
-fn put_tail(kept: usize, out: &mut [u8], at: usize) -> usize
-    ensures { Poured out.old at (tail_part kept) out.new result }
+#[tactic(auto, unfolding(crate::specs::Summaries::tail_part), using(text::proofs::Putting::put_next, text::proofs::Putting::put_none))]
+fn put_tail(kept: usize, sheet: &mut Sheet<'_>)
+    ensures { sheet.new ≡ put_on (tail_part kept) sheet.old }
 {
-    if kept == 0 {
-        at.min(out.len())
-    } else {
-        let next = put_numbered(b"tail of ", kept as u64, out, at);
-        text::put_words(out, next, b" bytes\n")
+    if kept != 0 {
+        put_numbered(b"tail of ", kept as u64, sheet);
+        sheet.put_words(b" bytes\n");
     }
 }
 
-// The text of a summary, of the counts and the state at the end of the input. What has no room before the buffer's end is dropped, and the
-// answer is the place past what was put.
-pub fn put(tally: Tally, lister: Lister, out: &mut [u8], at: usize) -> usize
-    ensures { Poured out.old at (summary_of tally lister) out.new result }
+// The text of a summary, of the counts and the state at the end of the input. What has no room before the buffer's end is dropped.
+#[tactic(auto, unfolding(crate::specs::Summaries::summary_of), using(text::proofs::Putting::put_next))]
+pub fn put(tally: Tally, lister: Lister, sheet: &mut Sheet<'_>)
+    ensures { sheet.new ≡ put_on (summary_of tally lister) sheet.old }
 {
-    let second = put_counts(&tally, out, at);
-    let third = put_refusals(&tally, out, second);
-    let fourth = put_unfinished(lister.listener.hand, out, third);
-    put_tail(lister.kept, out, fourth)
+    put_counts(&tally, sheet);
+    put_refusals(&tally, sheet);
+    put_unfinished(lister.listener.hand, sheet);
+    put_tail(lister.kept, sheet);
 }

@@ -15,7 +15,7 @@ use Rattle.kit.specs.Each.{each}
 use Rattle.kit.proofs.Each.{each_next}
 use Rattle.kit.proofs.Put.{put_then}
 use Rattle.kit.proofs.Stores.{sets-past}
-use Rattle.text.specs.Putting.{holding, put_on}
+use Rattle.text.specs.Putting.{sheet_with, put_on}
 use Rattle.text.specs.declared.sheets.Sheet.{Sheet}
 
 one_after : (l : List ℕ) (i : ℕ) (a b : List ℕ) → sets (sets l i a) (i + length a) b ≡ sets l i (a ++ b)
@@ -53,11 +53,11 @@ put_next a b sheet =
     let h = leb-false (i + length a) n full in
     beyond m b j (i + length a) (omega (arith, long)) (omega (arith, long)) ∙ one_after l i a b) in
     let past : max j (min (j + length b) (length m)) ≡ max i (min (i + length (a ++ b)) n) = omega (arith, long, both) in
-    ap (λ bytes. holding bytes (max j (min (j + length b) (length m))) sheet) stored ∙ ap (λ k. holding (sets l i (a ++ b)) k sheet) past
+    ap (λ bytes. sheet_with bytes (max j (min (j + length b) (length m))) sheet) stored ∙ ap (λ k. sheet_with (sets l i (a ++ b)) k sheet) past
 
 pub put_none : (sheet : Sheet) → put_on [] sheet ≡ sheet
 unfolding put_on
-put_none sheet = ap (λ k. holding sheet.buffer.now k sheet) (omega arith)
+put_none sheet = ap (λ k. sheet_with sheet.buffer.now k sheet) (omega arith)
 
 -- one thing's bytes after those of the i things before it
 pub put_each : (of : ℕ → List ℕ) (i : ℕ) (sheet : Sheet) → put_on (of i) (put_on (each of 0 i) sheet) ≡ put_on (each of 0 (i + 1)) sheet
@@ -65,16 +65,16 @@ put_each of i sheet = put_next (each of 0 i) (of i) sheet ∙ ap (λ bytes. put_
 
 -- what `Poured` says of a buffer and a place, said of a sheet
 pub poured_on : {bytes m : List ℕ} {next : ℕ} (sheet : Sheet) → sheet.at ≤ length sheet.buffer.now → Poured sheet.buffer.now sheet.at bytes m next
-    → holding m next sheet ≡ put_on bytes sheet
+    → sheet_with m next sheet ≡ put_on bytes sheet
 unfolding put_on
 poured_on {bytes} {m} {next} sheet inside p =
-    ap (λ l. holding l next sheet) p.stored ∙ ap (λ k. holding (sets sheet.buffer.now sheet.at bytes) k sheet) (omega (arith, p.past))
+    ap (λ l. sheet_with l next sheet) p.stored ∙ ap (λ k. sheet_with (sets sheet.buffer.now sheet.at bytes) k sheet) (omega (arith, p.past))
 
 pub none_put : (bytes : List ℕ) (sheet : Sheet) → length sheet.buffer.now ≤ sheet.at → sheet ≡ put_on bytes sheet
 unfolding put_on
 none_put bytes sheet full =
     let l = sheet.buffer.now in
-    ap (λ k. holding l k sheet) (omega arith) ∙ ap (λ m. holding m (max sheet.at (min (sheet.at + length bytes) (length l))) sheet) (sym (sets-past bytes l sheet.at full))
+    ap (λ k. sheet_with l k sheet) (omega arith) ∙ ap (λ m. sheet_with m (max sheet.at (min (sheet.at + length bytes) (length l))) sheet) (sym (sets-past bytes l sheet.at full))
 
 -- and back: on a sheet whose place is no farther than the buffer's end
 pub put_poured : (bytes : List ℕ) (sheet : Sheet) → sheet.at ≤ length sheet.buffer.now

@@ -4,8 +4,8 @@ use Rattle.std.proofs.lemmas.List.Edits.{sets}
 use Rattle.text.specs.declared.sheets.Sheet.{Sheet}
 
 -- the same sheet with other bytes in the buffer and another place
-abbrev pub holding : List ℕ → ℕ → Sheet → Sheet
-holding bytes at sheet =
+abbrev pub sheet_with : List ℕ → ℕ → Sheet → Sheet
+sheet_with bytes at sheet =
     record {
       buffer = record { ref_ptr = sheet.buffer.ref_ptr; ghost_name = sheet.buffer.ghost_name; now = bytes };
       at = at;
@@ -15,4 +15,4 @@ holding bytes at sheet =
 -- then past what was put. A place past the end stays where it is.
 unfoldable pub put_on : List ℕ → Sheet → Sheet
 put_on bytes sheet =
-    holding (sets sheet.buffer.now sheet.at bytes) (max sheet.at (min (sheet.at + length bytes) (length sheet.buffer.now))) sheet
+    sheet_with (sets sheet.buffer.now sheet.at bytes) (max sheet.at (min (sheet.at + length bytes) (length sheet.buffer.now))) sheet

@@ -1,5 +1,6 @@
 // A sheet: a lent buffer and the place in it where the next byte goes. What has no room before the buffer's end is dropped, so that no
-// function asks anything of its caller.
+// function asks anything of its caller. It is no `fmt::Write`: of what `write!` puts std says something only where it answers `Ok`, and no
+// clause says that it does, so that the goal on the sheet after a `write!` stays open.
 ghost use Rattle.std.specs.Prelude.{[], ◌∷◌, ◌≡◌, min, length};
 ghost use Rattle.text.specs.Decimals.{decimal};
 ghost use Rattle.text.specs.Putting.{put_on};

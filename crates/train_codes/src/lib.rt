@@ -47,6 +47,7 @@ pub enum Traction {
     Supported(u32),
 }
 
+// Functions, and no `From` of a pair or a number: what the two flags and the number are is said by their names.
 pub fn cab_of(a: bool, b: bool) -> Cab
     ensures { result ≡ cab_of a b }
 {

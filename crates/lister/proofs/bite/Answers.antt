@@ -1,20 +1,17 @@
 -- `bite`: the bytes are put behind those that were kept. With 26 of them the telegram is heard, otherwise all are kept.
-use Prim.Native.Nat.{ℕ, ◌+◌, ◌-◌, ◌<◌, ◌≤◌}
+use Prim.Native.Nat.{ℕ, ◌+◌, ◌<◌, ◌≤◌}
 use mathlib.Core.Path.{◌≡◌, ap, sym, ◌∙◌}
 use mathlib.Core.List.{List, [], ◌∷◌, ◌++◌}
 use lib.ListN.{length}
-use lib.Seq.{sets}
-use borrow.Rule.Slice.PartMut.{put_mid}
 use native.Mathlib.Omega.{arith}
 use Rattle.kit.specs.Put.{Poured}
 use Rattle.text.specs.Putting.{put_on}
 use Rattle.text.specs.declared.sheets.Sheet.{Sheet}
 use Rattle.text.proofs.Putting.{put_none}
-use Rattle.text.proofs.Copies.{part_sets}
 use Rattle.lister.specs.Hearings.{lines_for}
 use Rattle.lister.specs.Pieces.{padded, keeping, take_of, piece_lines, MadeByPieces}
 use Rattle.lister.specs.declared.Lister.{Lister}
-use Rattle.lister.proofs.Kept.{state, made_kept, filled, filled-to, filled-whole, take_part, lines-part, take-one, lines-one}
+use Rattle.lister.proofs.Kept.{state, made_kept, part_filled, filled, filled-to, filled-whole, take_part, lines-part, take-one, lines-one}
 use borrow.Author.Rules.{rules}
 use Rattle.lister.proofs.bite.Goals as goal
 
@@ -39,19 +36,13 @@ module _ {lister : Lister} (m : MadeByPieces lister) {piece after : List ℕ} {n
         sym (ap (λ bytes. put_on bytes before) (lines-part kept piece short) ∙ put_none before),
       )
 
--- the bytes copied into a part of the tail
-stored : {tail piece part : List ℕ} {kept : ℕ} → length tail ≡ 26 → kept + length piece ≤ 26 → part ≡ piece
-    → Poured tail kept piece (put_mid kept (kept + length piece - kept) tail part) (kept + length piece)
-stored {tail} {piece} {part} {kept} long room same =
-    record { stored = part_sets tail part kept (kept + length piece - kept) (omega (arith, long, room)) (ap length same ∙ omega arith) ∙ ap (sets tail kept) same; past = omega (arith, long, room) }
-
 pub returns-then-kept-ge-LENGTH : goal.returns-then-kept-ge-LENGTH
 returns-then-kept-ge-LENGTH c =
-    let p = stored (search rules) c.requires.1 c.copy_from_slice.ensures.after in
+    let p = part_filled (search rules) c.requires.1 c.copy_from_slice.ensures.after (omega arith) in
     let said = c.hear_one.ensures in
     whole c.requires.0 c.requires.1 p c.args.listing.now c.if-kept-ge-LENGTH.true said.0 said.1
 
 pub returns-else-kept-ge-LENGTH : goal.returns-else-kept-ge-LENGTH
 returns-else-kept-ge-LENGTH c =
-    let p = stored (search rules) c.requires.1 c.copy_from_slice.ensures.after in
+    let p = part_filled (search rules) c.requires.1 c.copy_from_slice.ensures.after (omega arith) in
     part c.requires.0 c.requires.1 p c.args.listing.now c.if-kept-ge-LENGTH.false

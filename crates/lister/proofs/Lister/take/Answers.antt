@@ -1,7 +1,7 @@
 -- `take`: what the telegram in hand lacks, and then the rest.
 use mathlib.Core.Path.{◌∙◌}
 use native.Mathlib.Omega.{arith}
-use Rattle.lister.proofs.Phases.{here, lacks, two_parts, cut_fits, cut-begun}
+use Rattle.lister.proofs.Phases.{here, lacks, parts_on, cut_fits, cut-begun}
 use Rattle.lister.proofs.Lister.take.Goals as goal
 
 pub lacking-requires : goal.lacking-requires
@@ -17,4 +17,4 @@ take_rest-requires c =
     (here c.args.self _ c.requires same, cut-begun _ _ c.requires cut.by_index.0 (cut.front_len ∙ c.lacking.ensures) same)
 
 pub returns : goal.returns
-returns c = two_parts c.args.self _ _ c.split_at.ensures.by_index.0 c.args.listing.now c.bite-between.ensures c.take_rest.ensures
+returns c = parts_on c.args.self _ _ c.split_at.ensures.by_index.0 c.args.listing.now c.bite-between.ensures c.take_rest.ensures
