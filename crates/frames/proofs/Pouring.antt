@@ -1,5 +1,5 @@
 -- The whole output of a whole input, poured from the buffer's start on, call by call: what is poured so far and what is still to come make
--- the whole.
+-- the whole. These are laws that docs/PORT.md names: the code puts its output on sheets now, the laws hold as they did.
 use Prim.Native.Nat.{ℕ, ◌≤◌}
 use mathlib.Core.Path.{◌≡◌, refl, sym, ap, ◌∙◌}
 use mathlib.Core.List.{List, [], ◌++◌, append-nil, append_assoc}
