@@ -1,6 +1,6 @@
 -- `put_marks`: after i turns the first i marks are put.
 use mathlib.Core.Bool.{false}
-use mathlib.Core.Path.{◌≡◌, refl, sym, ◌∙◌}
+use mathlib.Core.Path.{◌≡◌, sym, ◌∙◌}
 use mathlib.Core.List.{map}
 use lib.ListN.{length, length-map}
 use native.Mathlib.Omega.{arith}
@@ -10,9 +10,6 @@ use Rattle.condition.specs.Slots.{slot_count}
 use Rattle.memory.specs.Memory.{marks_from, flag_byte, with_marks}
 use borrow.Author.Rules.{rules}
 use Rattle.memory.proofs.put_marks.Goals as goal
-
-pub loop-i-init : goal.loop-i-init
-loop-i-init c = record { stored = refl; past = refl }
 
 pub loop-i-preserved : goal.loop-i-preserved
 loop-i-preserved c =

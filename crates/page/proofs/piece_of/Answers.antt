@@ -1,8 +1,8 @@
 -- `piece_of`: from the last byte on, what is packed is all that stands from the place on.
 use Prim.Native.Nat.{◌-◌, ◌<◌}
-use mathlib.Core.Path.{◌≡◌, sym, ap, ◌∙◌, subst}
+use mathlib.Core.Path.{sym, ap, subst}
 use native.Mathlib.Omega.{arith}
-use lib.ListN.{take, drop, get_or}
+use lib.ListN.{get_or}
 use Rattle.page.specs.Packed.{Small, none_small, number_made}
 use Rattle.page.proofs.Packed.{packed_none, packed_more, small-more, packed_fits}
 use Rattle.page.proofs.piece_of.Goals as goal
@@ -34,10 +34,3 @@ loop-i-preserved c =
       packed_more words c.args.from l.i above l.invariant.0 l.invariant.1,
       small-more words c.args.from l.i above l.invariant.0 l.invariant.2 byte,
     )
-
-pub returns : goal.returns
-returns c =
-    let l = c.loop-i in
-    let all : l.i - c.args.from ≡ 0 = omega arith in
-    let whole = ap (λ n. drop n (take 8 (drop c.args.from c.args.words.now))) all in
-    (l.invariant.1 ∙ ap number_made whole, subst Small whole l.invariant.2)

@@ -1,18 +1,11 @@
 -- `put_digits`: eight bytes are stored, and the first ones, which are put, are the digits and perhaps the byte after them.
 use Prim.Native.Nat.{◌+◌}
 use mathlib.Core.Path.{sym, ap, ◌∙◌}
-use native.Mathlib.Omega.{arith}
 use Rattle.page.specs.Packed.{low_bytes}
 use Rattle.page.proofs.Sheets.{laid_on_as}
 use mir.Val.{bool_byte}
-use Rattle.page.proofs.Packed.{flags_fit, most_if, five_piece, five-shown}
+use Rattle.page.proofs.Packed.{most_if, five_piece, five-shown}
 use Rattle.page.proofs.put_digits.Goals as goal
-
-pub overflow_add-digits-2 : goal.overflow_add-digits-2
-overflow_add-digits-2 c = omega (arith, flags_fit c.args.wanted)
-
-pub put_piece-requires : goal.put_piece-requires
-put_piece-requires c = omega (arith, flags_fit c.args.wanted)
 
 pub returns : goal.returns
 returns c =
