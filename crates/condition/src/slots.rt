@@ -9,8 +9,8 @@ use wire::Refusal;
 // How many slots a table has.
 pub const SLOTS: usize = 20;
 
-// What a slot holds. That it is empty is this enum's word, and not that its number is 0. The type of an area is a number: `listener_in` finds
-// any byte in a lent memory.
+// What a slot holds. That it is empty is this enum's word, and not that its number is 0, and no Option's: a lent memory may have a number
+// and nothing in the slot. The type of an area is a number: `listener_in` finds any byte in a lent memory.
 #[derive(Clone, Copy)]
 pub enum Body {
     Empty,

@@ -11,8 +11,8 @@ use places::Place;
 use resting::{AtRest, Ended};
 use wire::Refusal;
 
-// The ended numbers stand by the step in which they ended, the newest first, and within a step by slot. Its arrays are of a fixed size, since
-// there is no heap.
+// The ended numbers stand by the step in which they ended, the newest first, and within a step by slot. Its arrays are of a fixed size,
+// since there is no heap. The last number given is 0 where none was, since `number_after` counts on from it.
 #[derive(Clone, Copy)]
 pub struct Desk {
     pub places: [Place; 20],
@@ -21,7 +21,7 @@ pub struct Desk {
     pub step: u16,
 }
 
-// Beside a refusal stands the desk as it was.
+// Beside a refusal stands the desk as it was, so that this is no Result of a desk: `accept_of` says which desk comes of a refusal, too.
 #[derive(Clone, Copy)]
 pub struct Answer {
     pub verdict: Result<(), Refusal>,
@@ -51,7 +51,8 @@ impl Desk {
         }
     }
 
-    // Takes the whole list of orders now in force, any bytes of any length: one step, or a refusal that changes nothing.
+    // Takes the whole list of orders now in force, any bytes of any length: one step, or a refusal that changes nothing. That the desk was
+    // made is asked for, and is no invariant: `desk_writer::write` takes any desk.
     pub fn accept(self, list: &[u8]) -> Answer
         requires { Made self }
         ensures { answer_in result ≡ accept_of base_rest self list.now }

@@ -7,8 +7,8 @@ use mathlib.Core.List.{List, [], ◌∷◌}
 use lib.Dec.{eqb, ltb}
 use lib.ListN.{length, take, drop, length-drop}
 use native.Mathlib.Omega.{arith}
-use borrow.Author.Tests.{eqb-true, eqb-false, leb-true, leb-false, lt-leb, lt-ltb, le-ltb}
-use Rattle.std.specs.Prelude.{None, Some}
+use borrow.Author.Tests.{eqb-false, leb-true, leb-false, lt-leb, lt-ltb, le-ltb}
+use Rattle.std.specs.Prelude.{Some}
 use Rattle.kit.specs.Bytes.{word_at}
 use Rattle.kit.proofs.Cases.{on}
 use Rattle.frames.specs.Frames.{follows, size_of, is_whole_frame, whole_size, size_given, first_of, behind, framed_up_to, calls_of, left_up_to, left_of, is_short, short_tail}
@@ -78,9 +78,6 @@ size_some {size = size} known e =
     on (eqb known 0)
     (λ z. absurd (let h = rw z at e in cc))
     (λ z. let h = rw z at e in let same : size ≡ known = cc in (same, omega (arith, eqb-false known 0 z)))
-
-pub size_none : (known : ℕ) → None ≡ size_given known → known ≡ 0
-size_none known e = on (eqb known 0) (λ z. eqb-true known 0 z) (λ z. absurd (let h = rw z at e in cc))
 
 size-known : (bare : ℕ) (input : List ℕ) → 1 ≤ whole_size bare input → (is_whole_frame bare input ≡ true) × (whole_size bare input ≡ size_of bare input)
 unfolding whole_size

@@ -1,7 +1,8 @@
 // The calls of an input, by an iterator.
 use crate::{LENGTH, first_size};
 
-// One call: its length as it stands there, and its bytes.
+// One call: its length as it stands there, and its bytes. A call with no telegram is told by the length alone, and by no Option of the
+// bytes: `calls_of`, by which runs are defined, gives pairs of the two.
 #[derive(Clone, Copy)]
 pub struct WholeCall<'a> {
     pub length: u16,

@@ -21,7 +21,8 @@ const STEP: usize = 163;
 
 const HELD: usize = 165;
 
-// A set by value: which of the packets 3 to 7 are held, and the twenty slots, empty where no packet has come.
+// A set by value: which of the packets 3 to 7 are held, and the twenty slots, empty where no packet has come. Flags beside the slots, since
+// a lent memory may have slots of a packet that is not held, and `hand_in` says what those are.
 #[derive(Clone, Copy)]
 pub struct Hand {
     pub step: u16,
@@ -61,7 +62,8 @@ pub fn is_held(memory: &[u8; 310], packet: u8) -> bool
     k < PACKETS && memory[HELD + k] != 0
 }
 
-// The four slots of a telegram from slot i of the set on. The test is never met; by it the compiler knows that each of the four has a place.
+// The four slots of a telegram from slot i of the set on. The test is never met; by it the compiler knows that each of the four has a
+// place.
 fn put_four(memory: &mut [u8; 310], i: usize, telegram: &[u8])
     requires { i ≤ 16 }
     ensures { memory.new ≡ four_in telegram.now i memory.old 4 }
@@ -90,7 +92,8 @@ pub fn is_whole(memory: &[u8; 310]) -> bool
     memory[HELD..SET].iter().all(|byte| *byte != 0)
 }
 
-// Which of the five packets are held. By `from_fn`, as `memory::marks_in`.
+// Which of the five packets are held. By `from_fn`, since the memory has no array of five that a `map` could go over. One function for
+// these flags and `memory::marks_in` would be public and ask for room.
 fn held_in(memory: &[u8; 310]) -> [bool; 5]
     ensures { result ≡ flags_at memory.now held_from packets }
 {

@@ -17,7 +17,7 @@ pub fn is_last(last: Option<u16>, step: u16) -> bool
     last == Some(step)
 }
 
-// The gap from the step last taken, 0 where there is none.
+// The gap from the step last taken, 0 where there is none: that is its promise, and a table says its gap as a number.
 pub fn gap_from(last: Option<u16>, step: u16) -> u16
     ensures { result ≡ gap_from last step }
 {

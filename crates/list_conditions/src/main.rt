@@ -82,8 +82,8 @@ fn count_piece(tally: Option<Tally>, lister: Lister, piece: &[u8]) -> Option<Tal
 }
 
 // Puts the header, all of it: the buffer has the size for which that is proved (listing_room/specs/Rooms.antt). Here and below a slice of
-// that size is asked for, and no array type has it: each number stands in one place, there, and it is the contract that refuses another
-// size.
+// that size is asked for, and no array type has it: the size is a definition there, of which the room is proved, and it is the contract
+// that refuses another.
 fn put_header(out: &mut [u8]) -> usize
     requires { length out.old ≡ header_room }
     ensures { Put out.old 0 header_line out.new result }

@@ -101,7 +101,7 @@ pub fn listener_in(memory: &[u8; 310]) -> Listener
     }
 }
 
-// The set becomes the picture, and no set is in hand.
+// The set becomes the picture, and no set is in hand: that is a set with nothing held, since `begun_in` and the lent memory have it so.
 #[tactic(auto, unfolding(crate::specs::Lent::shifted_in))]
 fn shift(memory: &mut [u8; 310], step: u16, marks: [bool; 20])
     ensures { memory.new ≡ shifted_in memory.old step marks }

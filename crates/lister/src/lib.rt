@@ -15,8 +15,8 @@ use listener::{Answer, Listener};
 use telegram::LENGTH;
 use text::Sheet;
 
-// What is kept from one piece to the next: the listener, how many tables it has taken, and the first bytes of a telegram that is not
-// yet whole; zeros follow them. No heap, so that the bytes have a count beside them; and the record stays as it is, since `finish` of listing
+// What is kept from one piece to the next: the listener, how many tables it has taken, and the first bytes of a telegram that is not yet
+// whole; zeros follow them. No heap, so that the bytes have a count beside them; and the record stays as it is, since `finish` of listing
 // and `put` of summary take whatever it holds.
 #[derive(Clone, Copy)]
 pub struct Lister {
@@ -47,8 +47,10 @@ impl Lister {
         }
     }
 
-    // Hears the telegrams that become whole with this piece, and keeps the bytes that are left. First those bytes that the telegram in
-    // hand still lacks, then telegrams that lie whole in the piece, and then what is left.
+    // Hears the telegrams that become whole with this piece, and keeps the bytes that are left. First those bytes that the telegram in hand
+    // still lacks, then telegrams that lie whole in the piece, and then what is left. That the lister was made is asked for, here and
+    // below. It is no invariant of `Lister`, since `finish` of listing takes any; and no ghost field of a type round it: of such a fact
+    // there is one proof at most, and a lister may come of pieces in many ways.
     pub fn take(self, piece: &[u8], listing: &mut Sheet<'_>) -> Self
         requires { MadeByPieces self }
         ensures { (result ≡ take_of self piece.now) × (listing.new ≡ put_on (piece_lines self piece.now) listing.old) }
@@ -108,9 +110,6 @@ fn hear_one(lister: Lister, telegram: &[u8], listing: &mut Sheet<'_>) -> Lister
         kept: 0,
     }
 }
-
-// That the lister was made is asked for here and in `bite`. It is no invariant of `Lister`, since `finish` of listing takes any; and no
-// ghost field of a type round it: of such a fact there is one proof at most, and a lister may come of pieces in many ways.
 
 // Takes a piece where no telegram is begun, or an empty one: hears the telegrams that lie whole in it, one after another, and keeps what is
 // left. The listener stands in lent memory from the first to the last.

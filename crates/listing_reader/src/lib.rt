@@ -7,7 +7,7 @@ ghost use Rattle.listing_reader.specs.Fixed.{word_of, code_of};
 use listing_lines::{HEADER, REFUSED};
 use listing_words::{CARRIED, NEW};
 
-// Which of the fixed byte strings a text is, each under the number that other languages know it by.
+// Which of the fixed byte strings a text is, each under the number that other languages know it by, 0 where it is none of them.
 #[derive(Clone, Copy, Debug, PartialEq, Eq)]
 pub enum Word {
     Other = 0,

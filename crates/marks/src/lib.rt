@@ -15,7 +15,7 @@ use memory::{ByteSet, PICTURE, SET, SLOT};
 // One more than the greatest number of three bytes.
 const THREE_BYTES: u32 = 0x1000000;
 
-// The type of a slot, by the byte that says what it holds and the byte after it.
+// The type of a slot, by the byte that says what it holds and the byte after it (memory/specs/Memory.antt).
 #[tactic(auto, unfolding(memory::specs::Memory::kind_from))]
 fn kind_of(shape: u8, own: u8) -> u8
     ensures { result ≡ kind_from shape own }

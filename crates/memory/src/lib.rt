@@ -51,7 +51,7 @@ fn body_of(shape: u8, own: u8, first: u16, second: u16) -> Body
     }
 }
 
-// The slot whose bytes begin at `at`.
+// The slot whose bytes begin at `at`. It and `put_bytes` ask for room, since the place is worked out from an index that is below twenty.
 #[tactic(auto, unfolding(crate::specs::Memory::stored_slot))]
 fn slot_at(memory: &[u8; 310], at: usize) -> Slot
     requires { at + 7 ≤ 310 }
@@ -106,7 +106,7 @@ pub fn set_in(memory: &[u8; 310]) -> [Slot; 20]
     table_at(memory, SET)
 }
 
-// Which slots of the picture are marked as carried. A `map` would go over a copy of their bytes.
+// Which slots of the picture are marked as carried. By `from_fn`, since the memory has no array of twenty that a `map` could go over.
 pub fn marks_in(memory: &[u8; 310]) -> [bool; 20]
     ensures { result ≡ marks_in memory.now }
 {

@@ -17,7 +17,8 @@ use wire::Refusal;
 // The most bytes that a list may have.
 const LONGEST: usize = 200;
 
-// The types of what stands in the twenty places, in their order; 0 where nothing does. By `from_fn`, as the orders of the places.
+// The types of what stands in the twenty places, in their order; 0 where nothing does, as `coded_of` has it. By `from_fn`, as the orders of
+// the places.
 fn types_of(places: [Place; 20]) -> [u8; 20]
     ensures { result ≡ types_of places }
 {

@@ -3,8 +3,8 @@
 ghost use Rattle.std.specs.Prelude.{◌≡◌};
 ghost use Rattle.outcomes.specs.Outcomes.{after_read, after_write, is_again, is_over, is_failed, is_ended};
 
-// Go on; do it again; the input has ended; it failed. Own cases and no Result: which of them is an error is another thing for a read than
-// for a write, and `is_again`, `is_ended`, `is_failed` and `is_over` answer of each.
+// Go on; do it again; the input has ended; it failed. Own cases and no Result: `is_again`, `is_ended`, `is_failed` and `is_over` answer of
+// each, and what is put at the end is promised of each, too.
 #[derive(Clone, Copy, Debug, PartialEq, Eq)]
 pub enum State {
     More,
@@ -13,7 +13,7 @@ pub enum State {
     Failed,
 }
 
-// How many bytes were moved, and what follows.
+// How many bytes had come when the input ended or a read failed, and which of the two it was.
 #[derive(Clone, Copy)]
 pub struct Moved {
     pub count: usize,

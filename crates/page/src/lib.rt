@@ -14,7 +14,7 @@ ghost use Rattle.page.specs.Packed.{Small, low_bytes, number_made, digits_before
 
 use text::Sheet;
 
-// Whether so many bytes have room.
+// Whether so many bytes have room. Private functions ask for the room that they need, each by what it puts.
 fn has_room(width: usize, page: &Sheet<'_>) -> bool
     ensures { result ≡ leb (page.now.at + width) (length page.now.buffer.now) }
 {

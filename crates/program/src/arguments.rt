@@ -30,9 +30,10 @@ pub enum Task {
 #[derive(Clone, Copy)]
 pub struct Asked {
     pub task: Task,
-    // the argument that decided the task, none where it is the work
+    // the argument that decided the task, none where it is the work. It stands beside the task, since `with` takes records of any two
     pub at: Option<usize>,
-    // whether an input was named, standard input or a file. An Option of the input in place of both would leave out records that `with` takes
+    // whether an input was named, standard input or a file. An Option of the input in place of both would leave out records that `with`
+    // takes
     pub given: bool,
     // the argument that names the file, none for standard input
     pub file: Option<usize>,

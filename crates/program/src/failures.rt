@@ -37,7 +37,8 @@ fn put_words_of(doing: Doing, name: &[u8], sheet: &mut Sheet<'_>)
     }
 }
 
-// The program's name, and what it was doing; a file has its name there.
+// The program's name, and what it was doing; a file has its name there. The name stands beside what was doing and in none of its cases: of
+// all six it is promised what is put, whatever the name.
 #[tactic(auto, unfolding(crate::specs::Failures::doing_text), using(text::proofs::Putting::put_next))]
 pub fn put_doing(program: Program, doing: Doing, name: &[u8], sheet: &mut Sheet<'_>)
     ensures { sheet.new ≡ put_on (doing_text program doing name.now) sheet.old }

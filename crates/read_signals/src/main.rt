@@ -63,6 +63,7 @@ fn show_line(system: System, updated: Updated) -> Result<(), Stopped> {
 }
 
 // What is said at the end: the line on a call that is not whole, where the input has ended inside one; after a read that failed, nothing.
+// One function for two programs would be public and answer a slice, and of such an answer no theorem says that there is one.
 #[tactic(auto, unfolding(signals_output::specs::Lines::short_call_line))]
 fn at_end(end: End) -> &'static [u8]
     ensures { result.now ≡ where_short end short_call_line }

@@ -76,6 +76,7 @@ fn show_refused(system: System, refusal: Refusal, lists: u64) -> Result<(), Stop
 }
 
 // What is said at the end: the line on a list that is not whole, where the input has ended inside one; after a read that failed, nothing.
+// One function for two programs would be public and answer a slice, and of such an answer no theorem says that there is one.
 #[tactic(auto, unfolding(desk_output::specs::Outputs::short_list_line))]
 fn at_end(end: End) -> &'static [u8]
     ensures { result.now ≡ where_short end short_list_line }

@@ -76,7 +76,8 @@ impl Signals {
         Updated { answer, signals }
     }
 
-    // The same for a host that says in a flag whether a telegram came. Where none is present the bytes are not looked at.
+    // The same for a host that says in a flag whether a telegram came. Where none is present the bytes are not looked at: that is promised
+    // of them, and an Option has none.
     #[tactic(auto, unfolding(crate::specs::Signals::update_of))]
     pub fn update(self, present: bool, telegram: &[u8]) -> Updated
         ensures { updating_of result ≡ update_of self present telegram.now }

@@ -29,7 +29,8 @@ pub fn lend_and_update_by(signals: Signals, telegram: Option<&[u8]>) -> Updated
     }
 }
 
-// The two for a host that says in a flag whether a telegram came. Where none is present the bytes are not looked at.
+// The two for a host that says in a flag whether a telegram came. Where none is present the bytes are not looked at: that is promised of
+// them, and an Option has none.
 #[tactic(auto, unfolding(signals::specs::Signals::update_of))]
 pub fn update(held: &mut Signals, present: bool, telegram: &[u8]) -> Answer
     ensures { (noted_of result ≡ (update_of held.old present telegram.now).noted)

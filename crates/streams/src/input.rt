@@ -189,7 +189,7 @@ impl Source<'_> {
     }
 }
 
-// What follows a read.
+// What follows a read. Of a write it is another thing (output.rt).
 fn state_of(tried: &io::Result<usize>) -> State {
     match tried {
         Ok(count) => outcomes::read_of(*count, false, false),

@@ -18,7 +18,8 @@ pub enum Output {
 pub struct Stopped;
 
 impl System<'_> {
-    // Writes all of these bytes, or stops at the first write that fails, and tells it.
+    // Writes all of these bytes, or stops at the first write that fails, and tells it. Not by the library's `write_all`: what follows each
+    // write is decided by `outcomes`, where it is proved. The loop has an end, here and in reading: one without would be a wait.
     pub fn write(self, output: Output, bytes: &[u8]) -> Result<(), Stopped> {
         let mut rest = bytes;
         for _ in 0..u64::MAX {
@@ -49,7 +50,7 @@ impl System<'_> {
     }
 }
 
-// What follows a write.
+// What follows a write. Of a read it is another thing (input.rt).
 fn state_of(tried: &io::Result<usize>) -> State {
     match tried {
         Ok(count) => outcomes::write_of(*count, false, false),

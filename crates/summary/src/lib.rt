@@ -199,7 +199,7 @@ fn put_tail(kept: usize, sheet: &mut Sheet<'_>)
     }
 }
 
-// The text of a summary, of the counts and the state at the end of the input. What has no room before the buffer's end is dropped.
+// The text of a summary, of the counts and the state at the end of the input. What has no room on the sheet is dropped.
 #[tactic(auto, unfolding(crate::specs::Summaries::summary_of), using(text::proofs::Putting::put_next))]
 pub fn put(tally: Tally, lister: Lister, sheet: &mut Sheet<'_>)
     ensures { sheet.new ≡ put_on (summary_of tally lister) sheet.old }

@@ -15,7 +15,7 @@ use Rattle.condition.proofs.Coding.{slot-numbered}
 use Rattle.std.specs.Prelude.{Result}
 use Rattle.std.specs.Result.{IsErrAnd}
 use Rattle.std.proofs.lemmas.Result.{err_from_is_err_and}
-use Rattle.wire.specs.Verdicts.{verdict_accepted, verdict_refused, row_number, verdict_in}
+use Rattle.wire.specs.Verdicts.{verdict_accepted, verdict_refused, row_number}
 use Rattle.wire.specs.declared.refusals.Refusal.{Refusal}
 use Rattle.wire.proofs.Answers.{verdict-accepted, verdict-refused}
 use Rattle.wire.proofs.Results.{number_nonzero}
@@ -106,11 +106,3 @@ module _ (t : Telegram) (buffer : List ℕ) (number : ℕ) (same : number ≡ la
   write-length e =
       eqb-true (length buffer) 26
       (not-false _ ((passed-exactly (write_rows t.packet (length buffer)) (write-numbered t.packet (length buffer))).0 (sym same ∙ e)).1.0)
-
--- what a `?` of a writing hands on, with the buffer as it was
-pub exit_writing : (answer : Result Unit Refusal) (refusal : Refusal) (t : Telegram) (buffer : List ℕ) → IsErrAnd answer (λ (own : Refusal). own ≡ refusal)
-    → row_number refusal ≡ ladder 0 (write_rows t.packet (length buffer)) → (verdict_in answer ≡ write_verdict t buffer) × (buffer ≡ written t buffer)
-exit_writing answer refusal t buffer p same =
-    let q = err_from_is_err_and answer p in
-    let w = write-refused t buffer (row_number refusal) same (number_nonzero refusal _ refl) in
-    (rw (q.1, q.2) (sym w.0), sym w.1)

@@ -1,6 +1,6 @@
 // What a telegram of 26 bytes means: a packet number, a step number and four slots; and which four of a table's twenty slots a
 // packet carries. specs/ has the layout and the refusals, proofs/ the theorems on them; the crates telegram_reader and
-// telegram_writer have the code.
+// telegram_writer have the code that reads and writes one.
 #![tactic(auto)]
 
 ghost use Rattle.std.specs.Prelude.{◌≤◌, ◌≡◌};

@@ -24,7 +24,8 @@ pub fn word_at(list: &[u8], i: usize) -> u16
     0
 }
 
-// The number of the four bytes from index i on.
+// The number of the four bytes from index i on. One function for two bytes and four would have a length for a parameter, and no type of its
+// answer.
 pub fn long_at(list: &[u8], i: usize) -> u32
     ensures { result ≡ long_at list.now i }
 {

@@ -94,9 +94,3 @@ loop-j-preserved c =
             twenty = ap (λ (s : Seats). length s.places) w.seats-is ∙ l.invariant.twenty;
           }
     ]
-
-pub returns : goal.returns
-returns c =
-    let a = c.args in
-    let end : c.loop-j.j ≡ a.n = search rules in
-    c.loop-j.invariant.seats ∙ ap (seated_all (rests_in a.at_rest) a.list.now a.first) end

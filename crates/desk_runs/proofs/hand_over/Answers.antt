@@ -60,17 +60,7 @@ returns-in_default c =
       c.put_short.ensures ∙ on_sheet l.lines (lines-short l.desk l.lists rest size sized given.part given.some) l.invariant.lines,
     )
 
-pub take-desk-requires : goal.take-desk-requires
-take-desk-requires c = c.loop-list.invariant.made
-
 -- a list has a length, so that there are no more lists than bytes
-pub overflow_add-lists : goal.overflow_add-lists
-overflow_add-lists c =
-    let l = c.loop-list in
-    let calls = l.list-iterator in
-    let given : CallGiven calls c.in-Ok.list c.next.new.self = rw c.in-Ok.is at c.in-Some.ensures.steps in
-    omega (arith, l.invariant.few, size_bounds no_bare calls.rest.now (next_size calls) (size_where calls l.invariant.bare) given.whole)
-
 pub loop-list-preserved : goal.loop-list-preserved
 loop-list-preserved c =
     let l = c.loop-list in

@@ -21,9 +21,6 @@ loop-init c = record {
   size = search rules;
 }
 
-pub show_end-requires : goal.show_end-requires
-show_end-requires c = c.loop.invariant.made
-
 pub loop-preserved : goal.loop-preserved
 loop-preserved c = record {
   made = subst⁻¹ MadeByPieces c.show_piece.ensures (taken_piece c.loop.invariant.made _);

@@ -7,7 +7,7 @@ use borrow.Author.Rules.{rules}
 use Rattle.listener.specs.Lent.{listener_in}
 use Rattle.listener.proofs.Back.{Sized, means-back}
 use Rattle.lister.proofs.Kept.{state}
-use Rattle.lister.proofs.Phases.{left-all, left-next, left-behind, left-fits, left_as, left-done}
+use Rattle.lister.proofs.Phases.{left-all, left-next, left-behind, left-fits, left_as}
 use Rattle.lister.proofs.take_rest.Goals as goal
 
 pub loop-telegram-init : goal.loop-telegram-init
@@ -47,11 +47,3 @@ bite-requires c =
     let end = c.remainder-left.ensures ∙ (c.chunks_exact-telegrams.ensures.remainder ∙ sym (left-behind l.left few)) in
     let now = left_as l.left (ap (λ x. state x c.loop-telegram.tables c.args.lister.tail c.args.lister.kept) c.listener_in.ensures) end in
     (now.made, left-fits now (omega (arith, ap length end, few)))
-
-pub returns : goal.returns
-returns c =
-    let l = c.loop-telegram.invariant in
-    let few : length c.loop-telegram.telegram-iterator.rest.now < 26 = omega (arith, c.in-None.ensures.steps.1.0, l.size) in
-    let end = c.remainder-left.ensures ∙ (c.chunks_exact-telegrams.ensures.remainder ∙ sym (left-behind l.left few)) in
-    let now = left_as l.left (ap (λ x. state x c.loop-telegram.tables c.args.lister.tail c.args.lister.kept) c.listener_in.ensures) end in
-    left-done now c.bite.ensures.0 c.bite.ensures.1
