@@ -27,14 +27,17 @@ fn put_packet(step: u16, packet: u8, slots: [Slot; 4], sheet: &mut Sheet<'_>)
     sheet.put_words(&bytes);
 }
 
-// The table as five telegrams, packets 3 to 7: 130 bytes. It is made once, and each packet is handed its four slots alone.
+// The table as five telegrams, packets 3 to 7: 130 bytes. It is made once, and each packet is handed its four slots alone. Five calls and no
+// loop: in each the packet is known when this is compiled; in a loop a step took some 3,500 instructions more, and a fifth of the time.
 pub fn put_table(desk: Desk, sheet: &mut Sheet<'_>)
     ensures { sheet.new ≡ put_on (five_telegrams desk) sheet.old }
 {
     let table = desk_writer::table_of(desk);
-    for packet in 3..=7 {
-        put_packet(desk.step, packet, telegram::four_of(table, packet), sheet);
-    }
+    put_packet(desk.step, 3, telegram::four_of(table, 3), sheet);
+    put_packet(desk.step, 4, telegram::four_of(table, 4), sheet);
+    put_packet(desk.step, 5, telegram::four_of(table, 5), sheet);
+    put_packet(desk.step, 6, telegram::four_of(table, 6), sheet);
+    put_packet(desk.step, 7, telegram::four_of(table, 7), sheet);
 }
 
 // `refused N at list I` and a line feed. It takes every number: a `Refusal` would ask more of a caller.

@@ -1,21 +1,15 @@
 -- `put_table`: five packets of the table, one after another.
-use Rattle.std.proofs.Common.{◌≡◌, sym, ap, ◌∙◌, arith}
-use Rattle.kit.specs.Each.{each}
-use Rattle.text.specs.Putting.{put_on}
-use Rattle.text.proofs.Putting.{put_none}
-use Rattle.desk_output.proofs.Packets.{packet_more, packets_all}
+use Rattle.desk_output.specs.Outputs.{five_telegrams}
+use Rattle.desk_output.proofs.Packets.{packed, and_then}
 use Rattle.desk_output.proofs.put_table.Goals as goal
 
-pub loop-packet-init : goal.loop-packet-init
-unfolding each
-loop-packet-init c = sym (put_none _)
-
-pub loop-packet-preserved : goal.loop-packet-preserved
-loop-packet-preserved c =
-    let l = c.loop-packet in
-    packet_more c.args.desk c.table_of-table.ensures l.packet (omega arith) c.four_of.ensures _ l.invariant c.put_packet.ensures
-
 pub returns : goal.returns
+unfolding five_telegrams
 returns c =
-    let all : c.loop-packet.packet ≡ 8 = omega arith in
-    c.loop-packet.invariant ∙ ap (λ packets. put_on packets c.args.sheet.now) (packets_all c.args.desk c.loop-packet.packet all)
+    let desk = c.args.desk in
+    let same = c.table_of-table.ensures in
+    and_then _ _ _ (packed desk same 3 c.four_of.ensures _ c.put_packet.ensures)
+    (and_then _ _ _ (packed desk same 4 c.four_of-2.ensures _ c.put_packet-2.ensures)
+    (and_then _ _ _ (packed desk same 5 c.four_of-3.ensures _ c.put_packet-3.ensures)
+    (and_then _ _ _ (packed desk same 6 c.four_of-4.ensures _ c.put_packet-4.ensures)
+    (packed desk same 7 c.four_of-5.ensures _ c.put_packet-5.ensures))))
