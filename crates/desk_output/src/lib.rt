@@ -52,7 +52,7 @@ pub fn put_refused(number: u8, list: u64, line: &mut Sheet<'_>)
     line.put_byte(LINE_FEED);
 }
 
-// What is said where the input ends inside a list.
+// What is said where the input ends inside a list; of a call `signals_output` says so. One function for both would be `Sheet::put_words`.
 pub const SHORT_LIST: &[u8] = b"short list\n";
 
 #[tactic(auto, unfolding(crate::specs::Outputs::short_list_line))]

@@ -39,7 +39,8 @@ fn begun_tally(asked: Asked) -> Option<Tally>
     asked.summary.then(Tally::none)
 }
 
-// Lists the input to its end, or to the first read or write that fails. What it had is counted only where a summary is asked for.
+// Lists the input to its end, or to the first read or write that fails. What it had is counted only where a summary is asked for. The
+// source and its progress, and below a lister with a tally or a state, come as two: a record of them would be made for one call or two.
 fn list(counted: Option<Tally>, source: &Source, begun: Progress) -> Result<(), Stopped>
     requires { IfSome counted Countable }
 {

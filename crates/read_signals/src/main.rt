@@ -22,7 +22,8 @@ fn main(rt: HostRuntime) {
     system.run(|_, source, progress| follow(source, progress).unwrap_or(()));
 }
 
-// Keeps the record to the input's end, or to the first read or write that fails.
+// Keeps the record to the input's end, or to the first read or write that fails. The source and its progress come as two, as `System::run`
+// hands them on; a record of them would be made for this call alone.
 fn follow(source: &Source, begun: Progress) -> Result<(), Stopped> {
     let system = source.system;
     let mut signals = Signals::fresh();

@@ -23,7 +23,8 @@ fn main(rt: HostRuntime) {
     system.run(|_, source, progress| run(source, progress).unwrap_or(()));
 }
 
-// Runs the desk to the input's end, or to the first read or write that fails.
+// Runs the desk to the input's end, or to the first read or write that fails. The source and its progress come as two, as `System::run`
+// hands them on; a record of them would be made for this call alone.
 fn run(source: &Source, begun: Progress) -> Result<(), Stopped> {
     let system = source.system;
     let mut desk = Desk::fresh();

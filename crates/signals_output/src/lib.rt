@@ -15,6 +15,7 @@ use text::{BLANK, LINE_FEED, Sheet};
 use train_codes::Isolation;
 use train_telegram::States;
 
+// This and each function below asks for the room of what it puts, and no two of them for the same.
 fn put_answer(answer: Answer, page: &mut Sheet<'_>)
     requires { room_for 16 page.old }
     ensures { PagedOn 13 (answer_words (noted_of answer)) page.old page.new }
@@ -73,7 +74,7 @@ pub fn put_line(updated: Updated, line: &mut Sheet<'_>)
     line.put_words(&bytes[..end]);
 }
 
-// What is said where the input ends inside a call.
+// What is said where the input ends inside a call; of a list `desk_output` says so. One function for both would be `Sheet::put_words`.
 pub const SHORT_CALL: &[u8] = b"short call\n";
 
 #[tactic(auto, unfolding(crate::specs::Lines::short_call_line))]

@@ -19,7 +19,9 @@ pub struct Stopped;
 
 impl System<'_> {
     // Writes all of these bytes, or stops at the first write that fails, and tells it. Not by the library's `write_all`: what follows each
-    // write is decided by `outcomes`, where it is proved. The loop has an end, here and in reading: one without would be a wait.
+    // write is decided by `outcomes`, where it is proved. The loop has an end, here and in reading: one without would be a wait. Who writes
+    // a line puts it on a sheet over a buffer of its own before: one function for all would take the buffer's size and a closure with its
+    // clause.
     pub fn write(self, output: Output, bytes: &[u8]) -> Result<(), Stopped> {
         let mut rest = bytes;
         for _ in 0..u64::MAX {
