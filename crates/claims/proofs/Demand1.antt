@@ -2,11 +2,12 @@
 use Prim.Native.Nat.{ℕ}
 use mathlib.Core.Path.{◌≡◌, refl, sym, ap, ◌∙◌, subst, subst⁻¹}
 use mathlib.Core.Bool.{Bool, true, false}
-use mathlib.Core.List.{List}
+use mathlib.Core.List.{List, []}
 use mathlib.Core.Logic.{◌↔◌}
 use contract.Monad.{fact_mono}
 use lib.ListN.{length}
 use borrow.Author.Tests.{ne_eqb}
+use Rattle.std.specs.Prelude.{Option, None, Some, option_copied}
 use Rattle.kit.specs.Ladder.{NoneHolds}
 use Rattle.kit.proofs.Cases.{given}
 use Rattle.kit.proofs.Contracts.{agree, both_facts}
@@ -29,11 +30,11 @@ use Rattle.listener.proofs.Lent.{heard_once}
 use Rattle.listener.proofs.Answers.{hearing_apart}
 use Rattle.listener.proofs.Promises as listener-promises
 use Rattle.signals.specs.Answers.{acceptance, absence, refusal_under, Updating}
-use Rattle.signals.specs.Signals.{missed_by, update_of}
+use Rattle.signals.specs.Signals.{missed_by, update_of, update_by}
 use Rattle.signals.specs.declared.Signals.{Signals}
 use Rattle.signals.proofs.Answers.{noted-apart, updating_apart}
 use Rattle.signals.proofs.Promises as train-promises
-use Rattle.claims.specs.Demand1.{RefusedBy, Lists, Telegrams, TelegramsLent, TrainTelegrams, TrainTelegramsLent, Buffers, Demand1}
+use Rattle.claims.specs.Demand1.{RefusedBy, Lists, Telegrams, TelegramsLent, TrainTelegrams, TrainTelegramsLent, TrainTelegramsBy, TrainTelegramsByLent, Buffers, Demand1}
 
 -- what is proved of a verdict is proved of what it tells
 ruled : (rows : List (Bool × ℕ)) (verdict : Verdict) → RefusedBy rows verdict_refused verdict → RefusedBy rows ruled_refused (ruling_of verdict)
@@ -127,6 +128,50 @@ train_lent =
           fact_mono 𝓤 _ _ (λ p number e. p.1 ∙ call_missed held.now telegram.now present number (sym p.0 ∙ e));
     }
 
+-- the same of a call that is handed a telegram or none
+module _ (signals : Signals) where
+  given_refused : (call : Option (List ℕ)) (telegram : List ℕ) → call ≡ Some telegram → RefusedBy (train_rows telegram) refusal_under (update_by signals call).noted
+  given_refused call telegram is = subst (λ c. RefusedBy (train_rows telegram) refusal_under (update_by signals c).noted) (sym is) (train-promises.refused-exactly signals telegram)
+
+  given_accepted : (call : Option (List ℕ)) (telegram : List ℕ) → call ≡ Some telegram → ((update_by signals call).noted ≡ acceptance) ↔ NoneHolds (train_rows telegram)
+  given_accepted call telegram is = subst (λ c. ((update_by signals c).noted ≡ acceptance) ↔ NoneHolds (train_rows telegram)) (sym is) (train-promises.accepted-exactly signals telegram)
+
+  given_absent : (call : Option (List ℕ)) → call ≡ None → ((update_by signals call).noted ≡ absence) × ((update_by signals call).signals ≡ missed_by signals)
+  given_absent call none = subst (λ c. ((update_by signals c).noted ≡ absence) × ((update_by signals c).signals ≡ missed_by signals)) (sym none) (call_absent signals [] false refl)
+
+  given_missed : (call : Option (List ℕ)) (number : ℕ) → (update_by signals call).noted ≡ refusal_under number → (update_by signals call).signals ≡ missed_by signals
+  given_missed None number e = call_missed signals [] false number e
+  given_missed (Some telegram) number e = call_missed signals telegram true number e
+
+train_by : TrainTelegramsBy
+train_by =
+    record {
+      defined = λ κs handed answer other lasts others p q. (updating_apart answer other (agree p q), refl);
+      refused = λ κs (signals, (call, _)) updated lasts p.
+          subst⁻¹ (λ (u : Updating). (telegram : List ℕ) → option_copied call ≡ Some telegram → RefusedBy (train_rows telegram) refusal_under u.noted) p (given_refused signals (option_copied call));
+      accepted_when = λ κs (signals, (call, _)) updated lasts p.
+          subst⁻¹ (λ (u : Updating). (telegram : List ℕ) → option_copied call ≡ Some telegram → (u.noted ≡ acceptance) ↔ NoneHolds (train_rows telegram)) p (given_accepted signals (option_copied call));
+      absent = λ κs (signals, (call, _)) updated lasts p.
+          subst⁻¹ (λ (u : Updating). option_copied call ≡ None → (u.noted ≡ absence) × (u.signals ≡ missed_by signals)) p (given_absent signals (option_copied call));
+      missed = λ κs (signals, (call, _)) updated lasts p.
+          subst⁻¹ (λ (u : Updating). (number : ℕ) → u.noted ≡ refusal_under number → u.signals ≡ missed_by signals) p (given_missed signals (option_copied call));
+    }
+
+train_by_lent : TrainTelegramsByLent
+train_by_lent =
+    record {
+      defined = λ M 𝓤 𝓛 mem run κs handed ghost answer other lasts others.
+          both_facts 𝓤 _ _ _ (λ p q. (noted-apart answer other (agree p.0 q.0), ap (λ after. (after, (tt, tt))) (agree p.1 q.1)));
+      refused = λ M 𝓤 𝓛 mem run κs (held, (call, _)) ghost answer lasts.
+          fact_mono 𝓤 _ _ (λ p telegram is. subst⁻¹ (λ a. RefusedBy (train_rows telegram) refusal_under a) p.0 (given_refused held.now (option_copied call) telegram is));
+      accepted_when = λ M 𝓤 𝓛 mem run κs (held, (call, _)) ghost answer lasts.
+          fact_mono 𝓤 _ _ (λ p telegram is. subst⁻¹ (λ a. (a ≡ acceptance) ↔ NoneHolds (train_rows telegram)) p.0 (given_accepted held.now (option_copied call) telegram is));
+      absent = λ M 𝓤 𝓛 mem run κs (held, (call, _)) ghost answer lasts.
+          fact_mono 𝓤 _ _ (λ p none. given (given_absent held.now (option_copied call) none) (λ (noted, kept). (p.0 ∙ noted, p.1 ∙ kept)));
+      missed = λ M 𝓤 𝓛 mem run κs (held, (call, _)) ghost answer lasts.
+          fact_mono 𝓤 _ _ (λ p number e. p.1 ∙ given_missed held.now (option_copied call) number (sym p.0 ∙ e));
+    }
+
 buffers : Buffers
 unfolding packet_of
 buffers =
@@ -138,4 +183,4 @@ buffers =
     }
 
 pub demand1 : Demand1
-demand1 = record { lists = lists; telegrams = telegrams; telegrams_lent = telegrams_lent; train = train; train_lent = train_lent; buffers = buffers }
+demand1 = record { lists = lists; telegrams = telegrams; telegrams_lent = telegrams_lent; train = train; train_lent = train_lent; train_by = train_by; train_by_lent = train_by_lent; buffers = buffers }

@@ -6,6 +6,7 @@ use mathlib.Core.List.{List, [], ◌∷◌}
 use mathlib.Core.Logic.{◌⊎◌}
 use contract.Monad.{fact_mono}
 use lib.ListN.{length, get_or}
+use Rattle.std.specs.Prelude.{Option, None, Some, option_copied}
 use Rattle.kit.specs.Bytes.{Bytes, bit}
 use Rattle.kit.proofs.Cases.{given}
 use Rattle.wire.specs.Distances.{InRange, distance_word}
@@ -34,11 +35,12 @@ use Rattle.train_telegram.specs.Readings.{Shows}
 use Rattle.train_telegram.specs.States.{silent}
 use Rattle.signals.specs.Answers.{acceptance, Updating}
 use Rattle.signals.specs.Histories.{Call, LastAccepted}
-use Rattle.signals.specs.Signals.{update_of}
+use Rattle.signals.specs.Signals.{update_of, update_by}
 use Rattle.signals.specs.declared.Signals.{Signals}
 use Rattle.signals.proofs.Answers.{absence_no_acceptance}
 use Rattle.signals.proofs.History.{updated_all, shown-from}
 use Rattle.signals.proofs.Promises as train-promises
+use Rattle.claims.specs.Functions.{call_of}
 use Rattle.claims.specs.Demand2.{Codes, AsDocument01Says, ReadBack, record_after, TheSignalReader, TheListener, Valid, Demand2}
 
 -- ---- writing and reading
@@ -78,6 +80,12 @@ call_shows : (signals : Signals) (telegram : List ℕ) (present : Bool) → (upd
 call_shows signals telegram true accepted = train-promises.accepted-shows signals telegram accepted
 call_shows signals telegram false accepted = absurd (absence_no_acceptance (sym (ap (λ (u : Updating). u.noted) (train-promises.absent-misses signals telegram)) ∙ accepted))
 
+-- the same of a call that is handed a telegram or none
+given_shows : (signals : Signals) (call : Option (List ℕ)) → (update_by signals call).noted ≡ acceptance
+    → (telegram : List ℕ) × (call ≡ Some telegram) × Shows (update_by signals call).signals.states telegram
+given_shows signals None accepted = absurd (absence_no_acceptance (sym (ap (λ (u : Updating). u.noted) (train-promises.absent-misses signals [])) ∙ accepted))
+given_shows signals (Some telegram) accepted = (telegram, refl, train-promises.accepted-shows signals telegram accepted)
+
 coded : AsDocument01Says
 coded =
     record {
@@ -90,6 +98,10 @@ coded =
           subst⁻¹ (λ (u : Updating). u.noted ≡ acceptance → Shows u.signals.states telegram.now) p (call_shows signals telegram.now present);
       signals_lent = λ M 𝓤 𝓛 mem run κs (held, (present, (telegram, _))) ghost answer lasts.
           fact_mono 𝓤 _ _ (λ p accepted. subst⁻¹ (λ (s : Signals). Shows s.states telegram.now) p.1 (call_shows held.now telegram.now present (sym p.0 ∙ accepted)));
+      signals_by = λ κs (signals, (call, _)) updated lasts p.
+          subst⁻¹ (λ (u : Updating). u.noted ≡ acceptance → (telegram : List ℕ) × (option_copied call ≡ Some telegram) × Shows u.signals.states telegram) p (given_shows signals (option_copied call));
+      signals_by_lent = λ M 𝓤 𝓛 mem run κs (held, (call, _)) ghost answer lasts.
+          fact_mono 𝓤 _ _ (λ p accepted. subst⁻¹ (λ (s : Signals). (telegram : List ℕ) × (option_copied call ≡ Some telegram) × Shows s.states telegram) p.1 (given_shows held.now (option_copied call) (sym p.0 ∙ accepted)));
     }
 
 -- what was written of a desk is read as it was
@@ -124,6 +136,11 @@ read_back =
 
 -- ---- what is shown
 
+-- a call that is handed a telegram or none is the call of the page
+same_call : (signals : Signals) (call : Option (List ℕ)) → update_by signals call ≡ update_of signals (call_of call).0 (call_of call).1
+same_call signals None = refl
+same_call signals (Some telegram) = refl
+
 -- the record of the page is the one that the functions make
 reader : TheSignalReader
 unfolding record_after
@@ -134,6 +151,10 @@ reader =
           ap (λ (u : Updating). u.signals) p ∙ ap (λ (s : Signals). (update_of s present telegram.now).signals) before;
       updates_lent = λ earlier M 𝓤 𝓛 mem run κs (held, (present, (telegram, _))) ghost answer lasts.
           fact_mono 𝓤 _ _ (λ p before. p.1 ∙ ap (λ (s : Signals). (update_of s present telegram.now).signals) before);
+      updates_by = λ earlier κs (signals, (call, _)) updated lasts p before.
+          ap (λ (u : Updating). u.signals) (p ∙ same_call signals (option_copied call)) ∙ ap (λ (s : Signals). (update_of s (call_of (option_copied call)).0 (call_of (option_copied call)).1).signals) before;
+      updates_by_lent = λ earlier M 𝓤 𝓛 mem run κs (held, (call, _)) ghost answer lasts.
+          fact_mono 𝓤 _ _ (λ p before. p.1 ∙ ap (λ (u : Updating). u.signals) (same_call held.now (option_copied call)) ∙ ap (λ (s : Signals). (update_of s (call_of (option_copied call)).0 (call_of (option_copied call)).1).signals) before);
     }
 
 -- and so is the listener

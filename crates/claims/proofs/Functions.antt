@@ -7,6 +7,7 @@ use mathlib.Core.Bool.{Bool}
 use mathlib.Core.List.{List, []}
 use contract.Monad.{fact_mono}
 use denote.Ref.{Bor, MutBor}
+use Rattle.std.specs.Prelude.{Option, None, Some}
 use Rattle.wire.specs.Distances.{distance_of}
 use Rattle.wire.specs.declared.distances.Distance.{Distance}
 use Rattle.wire.specs.Verdicts.{Verdict}
@@ -23,12 +24,12 @@ use Rattle.listener.specs.Lent.{HeardIn}
 use Rattle.listener.specs.declared.Answer as Vehicle
 use Rattle.listener.specs.declared.Heard.{Heard}
 use Rattle.listener.specs.declared.Listener.{Listener}
-use Rattle.signals.specs.Signals.{fresh_signals, update_of}
+use Rattle.signals.specs.Signals.{fresh_signals, update_of, update_by}
 use Rattle.signals.specs.declared.Answer as Train
 use Rattle.signals.specs.declared.Signals.{Signals}
 use Rattle.signals.specs.Answers.{noted_of, updating_of}
 use Rattle.signals.specs.declared.Updated.{Updated}
-use Rattle.claims.specs.Functions.{OfDistance, OfRead, OfWriteTelegram, OfFreshDesk, OfAccept, OfTable, OfWrite, OfFreshListener, OfFreshSignals, OfHear, OfHearIn, OfUpdate, OfUpdateLent}
+use Rattle.claims.specs.Functions.{OfDistance, OfRead, OfWriteTelegram, OfFreshDesk, OfAccept, OfTable, OfWrite, OfFreshListener, OfFreshSignals, OfHear, OfHearIn, OfUpdate, OfUpdateLent, OfUpdateBy, OfUpdateByLent}
 
 -- bytes that are lent, wherever they stand
 abbrev lent : List ℕ → Bor (List ℕ)
@@ -135,3 +136,20 @@ pub update-lent-says : (Such : Signals → Bool → List ℕ → Train.Answer �
     → OfUpdateLent Such
 update-lent-says Such plain M 𝓤 𝓛 mem run κs (held, (present, (telegram, _))) ghost answer (after, _) =
     fact_mono 𝓤 _ _ (λ p. plain held.now present telegram.now answer after p.0 p.1)
+
+-- and of a call that is handed a telegram or none
+asked_by : (Such : Signals → Option (List ℕ) → Updated → Type 0) → OfUpdateBy Such
+    → (signals : Signals) (call : Option (List ℕ)) (updated : Updated) → updating_of updated ≡ update_by signals call → Such signals call updated
+asked_by Such promised signals None updated p = promised ([], tt) (signals, (None, tt)) updated (tt, (tt, tt)) p
+asked_by Such promised signals (Some telegram) updated p = promised ([], tt) (signals, (Some (lent telegram), tt)) updated (tt, (tt, tt)) p
+
+pub update_by-says : (Such : Signals → Option (List ℕ) → Updated → Type 0)
+    → OfUpdateBy Such ↔ ((signals : Signals) (call : Option (List ℕ)) (updated : Updated) → updating_of updated ≡ update_by signals call → Such signals call updated)
+update_by-says Such = (asked_by Such, λ plain κs (signals, (call, _)) updated lasts p. plain signals _ updated p)
+
+pub update_by-lent-says : (Such : Signals → Option (List ℕ) → Train.Answer → Signals → Type 0)
+    → ((signals : Signals) (call : Option (List ℕ)) (answer : Train.Answer) (after : Signals)
+    → noted_of answer ≡ (update_by signals call).noted → after ≡ (update_by signals call).signals → Such signals call answer after)
+    → OfUpdateByLent Such
+update_by-lent-says Such plain M 𝓤 𝓛 mem run κs (held, (call, _)) ghost answer (after, _) =
+    fact_mono 𝓤 _ _ (λ p. plain held.now _ answer after p.0 p.1)

@@ -6,7 +6,7 @@
 -- It is said of the contracts of the functions that take a list, a telegram, a buffer or a packet number (Functions.antt): whatever such
 -- a function is handed, each outcome that its contract allows is as told below. The rows are those of document 01's table, in its order:
 -- `list_rows`, `write_rows`, `read_rows`, `hear_rows` and `train_rows`. proofs/Demand1.antt proves it.
-use Rattle.std.specs.Prelude.{ℕ, ◌≡◌, ◌↔◌, Bool, true, false, List, length}
+use Rattle.std.specs.Prelude.{ℕ, ◌≡◌, ◌↔◌, Bool, true, false, List, length, None, Some}
 use Rattle.hand.specs.Sets.{begun}
 use Rattle.signals.specs.Answers.{acceptance, absence, refusal_under, noted_of}
 use Rattle.signals.specs.Signals.{missed_by}
@@ -32,8 +32,11 @@ use Rattle.listener.proofs.hear_in as hear-in
 use Rattle.listener.specs.contracts.hear_in as hear-in-contract
 use Rattle.signals.proofs.Signals.update as update
 use Rattle.signals.specs.contracts.Signals.update as update-contract
+use Rattle.signals.proofs.Signals.update_by as update-by
+use Rattle.signals.specs.contracts.Signals.update_by as update-by-contract
 use Rattle.signals_in_place.specs.contracts.update as update-lent
-use Rattle.claims.specs.Functions.{OfRead, OfAccept, OfWrite, OfHear, OfHearIn, OfUpdate, OfUpdateLent}
+use Rattle.signals_in_place.specs.contracts.update_by as update-by-lent
+use Rattle.claims.specs.Functions.{OfRead, OfAccept, OfWrite, OfHear, OfHearIn, OfUpdate, OfUpdateLent, OfUpdateBy, OfUpdateByLent}
 
 -- R-23: a refusal is given when its row holds and nothing earlier does, and never else
 abbrev pub RefusedBy : {Said : Type 0} → List (Bool × ℕ) → (ℕ → Said) → Said → Type 0
@@ -94,6 +97,28 @@ pub record TrainTelegramsLent : Type 2 where
   pub absent : OfUpdateLent (λ signals present telegram answer after. present ≡ false → (noted_of answer ≡ absence) × (after ≡ missed_by signals))
   pub missed : OfUpdateLent (λ signals present telegram answer after. (number : ℕ) → noted_of answer ≡ refusal_under number → after ≡ missed_by signals)
 
+-- the same of a call that is handed a telegram or none, which is what programs and other languages go through:
+-- `Signals::update_by(signals, call)`
+pub record TrainTelegramsBy : Type 0 where
+  -- M-1b: there is one answer and one next record
+  pub defined : OneAnswer update-by-contract.ended update-by.Reads.Learnt
+  -- M-1d, R-10, R-16, R-17, R-22: a telegram is refused under the number of document 01
+  pub refused : OfUpdateBy (λ signals call updated. (telegram : List ℕ) → call ≡ Some telegram → RefusedBy (train_rows telegram) refusal_under (noted_of updated.answer))
+  -- R-23, C-07: and it is accepted when no row holds, and never else
+  pub accepted_when : OfUpdateBy (λ signals call updated. (telegram : List ℕ) → call ≡ Some telegram → (noted_of updated.answer ≡ acceptance) ↔ NoneHolds (train_rows telegram))
+  -- S-13, S-14: a call with none is a miss, and is not refused
+  pub absent : OfUpdateBy (λ signals call updated. call ≡ None → (noted_of updated.answer ≡ absence) × (updated.signals ≡ missed_by signals))
+  -- M-1f, S-13, S-20, R-24: a refused one is a miss, and changes nothing else
+  pub missed : OfUpdateBy (λ signals call updated. (number : ℕ) → noted_of updated.answer ≡ refusal_under number → updated.signals ≡ missed_by signals)
+
+-- S-01: and where the record is: `signals_in_place::update_by(held, call)`
+pub record TrainTelegramsByLent : Type 2 where
+  pub defined : Asserted.OneAnswerLent update-by-lent.ended (λ M 𝓤 𝓛. update-by-lent.clauses 𝓛)
+  pub refused : OfUpdateByLent (λ signals call answer after. (telegram : List ℕ) → call ≡ Some telegram → RefusedBy (train_rows telegram) refusal_under (noted_of answer))
+  pub accepted_when : OfUpdateByLent (λ signals call answer after. (telegram : List ℕ) → call ≡ Some telegram → (noted_of answer ≡ acceptance) ↔ NoneHolds (train_rows telegram))
+  pub absent : OfUpdateByLent (λ signals call answer after. call ≡ None → (noted_of answer ≡ absence) × (after ≡ missed_by signals))
+  pub missed : OfUpdateByLent (λ signals call answer after. (number : ℕ) → noted_of answer ≡ refusal_under number → after ≡ missed_by signals)
+
 -- ---- "buffer and packet number": `desk_writer::write(desk, packet, buffer)`
 
 pub record Buffers : Type 0 where
@@ -112,4 +137,6 @@ pub record Demand1 : Type 2 where
   pub telegrams_lent : TelegramsLent
   pub train : TrainTelegrams
   pub train_lent : TrainTelegramsLent
+  pub train_by : TrainTelegramsBy
+  pub train_by_lent : TrainTelegramsByLent
   pub buffers : Buffers

@@ -7,7 +7,7 @@
 -- that its contract allows is as told below; where one function is handed what another gave, of both their outcomes. What the codings
 -- are, document 01 says, and of voltage 0 document 02, request 1; and after them specs/ of `kinds`, `condition`, `telegram`, `train_codes`
 -- and `train_telegram`. proofs/Demand2.antt proves it.
-use Rattle.std.specs.Prelude.{ℕ, ◌+◌, ◌/◌, ◌%◌, ◌<◌, ◌≡◌, ◌⊎◌, false, cond, List, [], ◌∷◌, length, get_or}
+use Rattle.std.specs.Prelude.{ℕ, ◌+◌, ◌/◌, ◌%◌, ◌<◌, ◌≡◌, ◌⊎◌, false, cond, List, [], ◌∷◌, length, get_or, Some}
 use Rattle.kit.specs.Bytes.{Bytes, bit}
 use Rattle.wire.specs.Distances.{InRange, distance_word}
 use Rattle.wire.specs.Verdicts.{ruled_accepted, ruling_of}
@@ -25,7 +25,7 @@ use Rattle.signals.specs.Answers.{acceptance, noted_of}
 use Rattle.signals.specs.Histories.{Call, LastAccepted}
 use Rattle.signals.specs.Signals.{fresh_signals, update_of}
 use Rattle.signals.specs.declared.Signals.{Signals}
-use Rattle.claims.specs.Functions.{OfDistance, OfRead, OfWriteTelegram, OfTable, OfWrite, OfFreshListener, OfHear, OfFreshSignals, OfUpdate, OfUpdateLent}
+use Rattle.claims.specs.Functions.{OfDistance, OfRead, OfWriteTelegram, OfTable, OfWrite, OfFreshListener, OfHear, OfFreshSignals, OfUpdate, OfUpdateLent, call_of, OfUpdateBy, OfUpdateByLent}
 
 -- ---- "Conditions, written and read, and signals, read, are coded as SUBSET-119 issue 4.0.0 and our fleet binding in document 01 say."
 
@@ -49,6 +49,9 @@ pub record AsDocument01Says : Type 2 where
   -- M-2c: each signal has the state whose code stands in its own bits; S-01: of the record that is lent, too
   pub signals : OfUpdate (λ signals present telegram updated. noted_of updated.answer ≡ acceptance → Shows updated.signals.states telegram)
   pub signals_lent : OfUpdateLent (λ signals present telegram answer after. noted_of answer ≡ acceptance → Shows after.states telegram)
+  -- and of what programs and other languages go through: an accepted call has a telegram, and that is shown
+  pub signals_by : OfUpdateBy (λ signals call updated. noted_of updated.answer ≡ acceptance → (telegram : List ℕ) × (call ≡ Some telegram) × Shows updated.signals.states telegram)
+  pub signals_by_lent : OfUpdateByLent (λ signals call answer after. noted_of answer ≡ acceptance → (telegram : List ℕ) × (call ≡ Some telegram) × Shows after.states telegram)
 
 -- ---- "Reading a written table gives that table."
 
@@ -80,6 +83,9 @@ pub record TheSignalReader : Type 2 where
   pub signals_begin : OfFreshSignals (λ signals. signals ≡ record_after [])
   pub updates : (earlier : List Call) → OfUpdate (λ signals present telegram updated. signals ≡ record_after earlier → updated.signals ≡ record_after ((present, telegram) ∷ earlier))
   pub updates_lent : (earlier : List Call) → OfUpdateLent (λ signals present telegram answer after. signals ≡ record_after earlier → after ≡ record_after ((present, telegram) ∷ earlier))
+  -- and whether a flag and bytes are handed over, or a telegram or none, as programs and other languages do
+  pub updates_by : (earlier : List Call) → OfUpdateBy (λ signals call updated. signals ≡ record_after earlier → updated.signals ≡ record_after (call_of call ∷ earlier))
+  pub updates_by_lent : (earlier : List Call) → OfUpdateByLent (λ signals call answer after. signals ≡ record_after earlier → after ≡ record_after (call_of call ∷ earlier))
 
 -- R-26, M-1b: what a fresh listener has become after these telegrams, of any bytes, the newest first, is `heard_all`. It, too, is what the
 -- public functions make.

@@ -13,13 +13,14 @@
 --
 -- Spelt out with a buffer. `OfWrite Such` of `desk_writer::write(desk, packet, buffer)` says: for every desk, packet number and buffer, of
 -- the verdict that the contract gives and of what it says is in the buffer afterwards, `Such desk packet buffer verdict after`
--- (`write-says`). So it is for each line below, with the theorem of its name there. Of a lent record, `update-lent-says` proves that the
--- plain sentence is enough for the promise; that the promise says no less is for readers of kit/specs/Asserted.antt.
+-- (`write-says`). So it is for each line below, with the theorem of its name there. Of a lent record, `update-lent-says` and
+-- `update_by-lent-says` prove that the plain sentence is enough for the promise; that the promise says no less is for readers of
+-- kit/specs/Asserted.antt.
 --
 -- The right sides need no reading for that. They pick, out of what the checker has of a function, what `Such` is about: `ended` is what
 -- the function is handed and what it gives, `Learnt` its contract, `κs` for how long each thing is lent, `lasts` the last values.
 use Rattle.telegram.specs.Telegrams.{Reading, reading_in}
-use Rattle.std.specs.Prelude.{ℕ, Bool, List}
+use Rattle.std.specs.Prelude.{ℕ, Bool, true, false, List, [], Option, None, Some, option_copied}
 use Rattle.kit.specs.Asserted as Asserted
 use Rattle.kit.specs.Contracts.{Promised}
 use Rattle.wire.specs.declared.distances.Distance.{Distance}
@@ -31,6 +32,7 @@ use Rattle.desk.specs.declared.Desk.{Desk}
 use Rattle.listener.specs.declared.Answer as Vehicle
 use Rattle.listener.specs.declared.Heard.{Heard}
 use Rattle.listener.specs.declared.Listener.{Listener}
+use Rattle.signals.specs.Histories.{Call}
 use Rattle.signals.specs.declared.Answer as Train
 use Rattle.signals.specs.declared.Signals.{Signals}
 use Rattle.signals.specs.declared.Updated.{Updated}
@@ -58,7 +60,10 @@ use Rattle.signals.proofs.Signals.fresh as fresh-signals
 use Rattle.signals.specs.contracts.Signals.fresh as fresh-signals-contract
 use Rattle.signals.proofs.Signals.update as update
 use Rattle.signals.specs.contracts.Signals.update as update-contract
+use Rattle.signals.proofs.Signals.update_by as update-by
+use Rattle.signals.specs.contracts.Signals.update_by as update-by-contract
 use Rattle.signals_in_place.specs.contracts.update as update-lent
+use Rattle.signals_in_place.specs.contracts.update_by as update-by-lent
 
 -- `wire::distance_of(word)`
 abbrev pub OfDistance : (ℕ → Distance → Type 0) → Type 0
@@ -113,3 +118,20 @@ abbrev pub OfUpdateLent : (Signals → Bool → List ℕ → Train.Answer → Si
 OfUpdateLent Such =
     Asserted.PromisedLent update-lent.ended (λ M 𝓤 𝓛. update-lent.clauses 𝓛)
     (λ κs (held, (present, (telegram, _))) answer (after, _). Such held.now present telegram.now answer after)
+
+-- What the programs and other languages go through, which takes a telegram or none in place of a flag and bytes.
+
+-- a call as histories have it (signals/specs/Histories.antt)
+abbrev pub call_of : Option (List ℕ) → Call
+call_of None = (false, [])
+call_of (Some telegram) = (true, telegram)
+
+-- `Signals::update_by(signals, call)`
+abbrev pub OfUpdateBy : (Signals → Option (List ℕ) → Updated → Type 0) → Type 0
+OfUpdateBy Such = Promised update-by-contract.ended update-by.Reads.Learnt (λ κs (signals, (call, _)) updated lasts. Such signals (option_copied call) updated)
+
+-- `signals_in_place::update_by(held, call)`: the record before, and after
+abbrev pub OfUpdateByLent : (Signals → Option (List ℕ) → Train.Answer → Signals → Type 0) → Type 2
+OfUpdateByLent Such =
+    Asserted.PromisedLent update-by-lent.ended (λ M 𝓤 𝓛. update-by-lent.clauses 𝓛)
+    (λ κs (held, (call, _)) answer (after, _). Such held.now (option_copied call) answer after)
