@@ -1,9 +1,9 @@
 -- A telegram made of the bytes that were kept and those of a piece, and what is counted when it and those behind it are heard.
 use Prim.Native.Nat.{ℕ, ◌+◌, ◌-◌, ◌<◌, ◌≤◌}
-use mathlib.Core.Path.{◌≡◌, refl, sym, ap, ap₂, ◌∙◌}
+use mathlib.Core.Path.{◌≡◌, sym, ap, ap₂, ◌∙◌}
 use mathlib.Core.List.{List, ◌∷◌, ◌++◌, append_assoc, append-nil}
 use lib.ListN.{length, take, drop, length-append, length-take, length-drop, take-append-drop, drop_of_length-le}
-use lib.Seq.{sets, sets-eq, length-take-le, drop-drop}
+use lib.Seq.{sets, sets-eq, length-take-le, take-append_seam, drop-append_seam, drop-drop}
 use native.Mathlib.Omega.{arith}
 use Rattle.kit.specs.Put.{Poured}
 use Rattle.listener.specs.declared.Listener.{Listener}
@@ -27,20 +27,25 @@ telegrams-first telegram more long =
     ∙ (ap (λ (l : List (List ℕ)). l ++ telegrams_in (tail_of telegram ++ more)) (telegrams-one telegram long)
     ∙ ap (λ (l : List ℕ). telegram ∷ telegrams_in (l ++ more)) (tail_none telegram long))
 
--- a turn: one telegram is heard and counted
-pub count_turn : (tally : Tally) (listener : Listener) {next : Tally} {then : Listener} {bytes : List ℕ} (telegram more : List ℕ) → bytes ≡ telegram ++ more → length telegram ≡ 26
-    → next ≡ counted tally (heard_by listener telegram).told → then ≡ (heard_by listener telegram).listener → to_count next then more ≡ to_count tally listener bytes
-unfolding told_through counted_all
-count_turn tally listener {next} {then} {bytes} telegram more cut long counts means =
-    ap₂ (λ (t : Tally) (l : Listener). counted_all t (told_through l (telegrams_in more))) counts means
-    ∙ sym (ap (λ (l : List (List ℕ)). counted_all tally (told_through listener l)) (ap telegrams_in cut ∙ telegrams-first telegram more long))
-
--- so the first telegram of some bytes is heard and counted, and then those behind it
+-- the first telegram of some bytes is heard and counted, and then those behind it
 first-heard : (tally : Tally) (listener : Listener) (bytes : List ℕ) → 26 ≤ length bytes
     → counted_all tally (told_through listener (telegrams_in bytes))
     ≡ counted_all (counted tally (heard_by listener (take 26 bytes)).told) (told_through (heard_by listener (take 26 bytes)).listener (telegrams_in (drop 26 bytes)))
+unfolding told_through counted_all
 first-heard tally listener bytes room =
-    sym (count_turn tally listener (take 26 bytes) (drop 26 bytes) (sym (take-append-drop 26 bytes)) (length-take-le 26 bytes room) refl refl)
+    ap (λ (l : List (List ℕ)). counted_all tally (told_through listener l))
+    (ap telegrams_in (sym (take-append-drop 26 bytes)) ∙ telegrams-first (take 26 bytes) (drop 26 bytes) (length-take-le 26 bytes room))
+
+-- so a turn: one telegram is heard and counted, and more bytes are left
+pub count_turn : (tally : Tally) (listener : Listener) {next : Tally} {then : Listener} {bytes : List ℕ} (telegram more : List ℕ) → bytes ≡ telegram ++ more → length telegram ≡ 26
+    → next ≡ counted tally (heard_by listener telegram).told → then ≡ (heard_by listener telegram).listener → to_count next then more ≡ to_count tally listener bytes
+count_turn tally listener {next} {then} {bytes} telegram more cut long counts means =
+    let own : take 26 (telegram ++ more) ≡ telegram = ap (λ (n : ℕ). take n (telegram ++ more)) (sym long) ∙ take-append_seam telegram more in
+    let left : drop 26 (telegram ++ more) ≡ more = ap (λ (n : ℕ). drop n (telegram ++ more)) (sym long) ∙ drop-append_seam telegram more in
+    let counting : List ℕ → List ℕ → Tally = λ first rest. to_count (counted tally (heard_by listener first).told) (heard_by listener first).listener rest in
+    ap₂ (λ (t : Tally) (l : Listener). to_count t l more) counts means
+    ∙ sym (ap (to_count tally listener) cut
+    ∙ (first-heard tally listener (telegram ++ more) (omega (arith, length-append telegram more, long)) ∙ ap₂ counting own left))
 
 -- the end: no telegram is whole
 pub count-end : (tally : Tally) (listener : Listener) (bytes : List ℕ) → length bytes < 26 → to_count tally listener bytes ≡ tally
