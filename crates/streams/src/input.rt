@@ -1,5 +1,5 @@
 // The input: standard input or a file, read piece by piece.
-ghost use Rattle.std.specs.Prelude.{IfErr, IfNone, IfOk, IsSome};
+ghost use Rattle.std.specs.Prelude.{◌≡◌, ◌≤◌, length, IfErr, IfNone, IfOk, IfSome, IsSome};
 ghost use Rattle.io.specs.Counts.{IsPrefixLen};
 ghost use Rattle.std.specs.Io.{ReadsAtMost};
 
@@ -37,7 +37,10 @@ const NOT_OPEN: i32 = 9;
 
 impl<'a> System<'a> {
     // Opens the input, and puts its name into the lent buffer. Where it cannot be opened, that is told, and the answer is none.
-    pub fn open(self, asked: Asked, name: &'a mut [u8]) -> Option<Source<'a>> {
+    pub fn open(self, asked: Asked, name: &'a mut [u8]) -> Option<Source<'a>>
+        ensures same_system { IfSome result (λ source. source.system ≡ self.entry) }
+        ensures within { IfSome result (λ source. length source.name.now ≤ length name.old) }
+    {
         let Some(at) = asked.file else {
             return Some(Source {
                 system: self,

@@ -16,6 +16,7 @@ impl Source<'_> {
     pub fn progress_of(&mut self, asked: Asked) -> Progress
         ensures same_name { self.new.name.now ≡ self.old.name.now }
         ensures same_kind { is_standard self.new.opened ≡ is_standard self.old.opened }
+        ensures same_system { self.new.system ≡ self.old.system }
     {
         if !asked.progress || !self.system.rt.stderr().is_terminal() {
             return Progress::of(false, 0);
